@@ -1,0 +1,5 @@
+pub mod Memory
+pub mod Numbers
+pub mod Quoting
+pub mod Words
+pub mod formers
