@@ -1,0 +1,6 @@
+pub mod Classes
+pub mod Complete
+pub mod Sound
+pub mod Public
+pub mod Numbers
+pub mod Steps

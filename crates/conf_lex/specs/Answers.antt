@@ -1,0 +1,33 @@
+-- What the lexer's answers say.
+use Rattle.std.specs.Prelude.{◌≡◌, ℕ, List, ◌++◌, take, Result, Ok, Err}
+use Rattle.std.specs.Str.{IsUtf8, IsValidUpTo}
+use Rattle.conf_lex.specs.declared.token.Token.{Token}
+use Rattle.conf_lex.specs.declared.held.Held.{Held}
+use Rattle.conf_lex.specs.declared.error.LexError.{LexError}
+use Rattle.conf_lex.specs.declared.error.LexError.TheVariants as e
+use Rattle.conf_lex.specs.Machine.{Step, Reply}
+use Rattle.conf_lex.specs.Tokens.{Reading, line_behind}
+
+-- a step's answer: the tokens that the byte ended stand behind the earlier ones
+abbrev pub Steps : Step → List Token → Result Held LexError → List Token → Type 0
+Steps s old (Ok held) new = (ts : List Token) × (s ≡ Ok (ts, held)) × (new ≡ old ++ ts)
+Steps s old (Err (e.NotUtf8 line)) new = ⊥
+Steps s old (Err (e.Grammar line)) new = s ≡ Err line
+Steps s old (Err e.NoMemory) new = Unit {0}
+
+abbrev pub Gives : Result (List Token) LexError → Reply → Type 0
+Gives (Ok ts) reply = reply ≡ Ok ts
+Gives (Err (e.NotUtf8 line)) reply = ⊥
+Gives (Err (e.Grammar line)) reply = reply ≡ Err line
+Gives (Err e.NoMemory) reply = Unit {0}
+
+-- these tokens are the answer, unless memory ran out
+abbrev pub IsRead : List Token → Result (List Token) LexError → Type 0
+IsRead ts (Ok found) = found ≡ ts
+IsRead ts (Err x) = x ≡ e.NoMemory
+
+-- why a text is refused: its first byte that is not UTF-8, and only where there is none its first token that is none
+abbrev pub Refused : List ℕ → LexError → Type 0
+Refused bytes (e.NotUtf8 line) = ¬ (IsUtf8 bytes) × ((n : ℕ) × IsValidUpTo bytes n × (line ≡ line_behind 1 (take n bytes)))
+Refused bytes (e.Grammar line) = IsUtf8 bytes × Reading 1 bytes (Err line)
+Refused bytes e.NoMemory = Unit {0}

@@ -1,0 +1,4 @@
+pub mod Class
+pub mod Tokens
+pub mod Machine
+pub mod Answers

@@ -1,0 +1,14 @@
+//! The values of a configuration and the blocks that set them.
+//! A value is a text, a number or an array of pairs; a block is the global one or stands under a condition.
+//! Plain data, which other crates read, make and give a meaning: the condition fields are lighttpd's, the operators
+//! `==`, `!=`, `=~`, `!~`, `=^` and `=$`.
+//! Stands on `lt_bytes`.
+#![tactic(auto)]
+
+mod block;
+mod condition;
+mod value;
+
+pub use block::{Block, Config, Setting, Warning};
+pub use condition::{Condition, Field, Op};
+pub use value::{Pair, Value};
