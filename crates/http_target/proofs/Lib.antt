@@ -1,0 +1,3 @@
+pub mod MarkLemmas
+pub mod BadLemmas
+pub mod SegmentLemmas
