@@ -1,6 +1,7 @@
 -- Letter case and blanks (RFC 9110, section 5.6.3: OWS is spaces and tabs).
-use Rattle.std.specs.Prelude.{ℕ, Bool, ◌||◌, ◌==◌, List, [], ◌∷◌, map, reverse, bytes_eq, if◌then◌else◌}
+use Rattle.std.specs.Prelude.{◌≡◌, ℕ, Bool, true, false, ◌||◌, ◌==◌, List, [], ◌∷◌, ◌++◌, map, reverse, bytes_eq, if◌then◌else◌}
 use Rattle.std.specs.Char.{to_ascii_lowercase}
+use Rattle.std.specs.List.{list_all}
 
 -- the bytes with small letters in place of ASCII capitals
 abbrev pub lowered : List ℕ → List ℕ
@@ -26,3 +27,13 @@ before_blanks bytes = reverse (after_blanks (reverse bytes))
 -- the bytes without the blanks at both ends
 abbrev pub trimmed : List ℕ → List ℕ
 trimmed bytes = before_blanks (after_blanks bytes)
+
+-- rest is bytes without blanks at both ends, and no blank is left there
+pub record IsTrimmed (bytes rest : List ℕ) : Type 0 where
+  pub front : List ℕ
+  pub back : List ℕ
+  pub front_blank : list_all is_blank front ≡ true
+  pub back_blank : list_all is_blank back ≡ true
+  pub whole : bytes ≡ front ++ (rest ++ back)
+  pub first : (b : ℕ) (more : List ℕ) → rest ≡ b ∷ more → is_blank b ≡ false
+  pub last : (b : ℕ) (more : List ℕ) → rest ≡ more ++ b ∷ [] → is_blank b ≡ false

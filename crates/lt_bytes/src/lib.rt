@@ -6,6 +6,7 @@
 #![tactic(auto)]
 
 mod decimal_digits;
+pub mod laws;
 mod list;
 mod memory;
 mod numbers;

@@ -1,5 +1,5 @@
 //! Want of memory, the one failure that no caller can rule out.
-ghost use Rattle.std.specs.Prelude.{◌≡◌};
+ghost use Rattle.std.specs.Prelude.{◌≡◌, Some, codes};
 ghost use Rattle.lt_bytes.specs.Memory.{no_memory};
 
 use std::alloc::{AllocError, AllocFailed};
@@ -11,6 +11,8 @@ use std::fmt;
 pub struct NoMemory;
 
 impl fmt::Display for NoMemory {
+    ghost output = { λ _. Some (codes "out of memory") };
+
     fn fmt<W: fmt::Write>(&self, f: &mut fmt::Formatter<W>) -> fmt::Result {
         write!(f, "out of memory")
     }

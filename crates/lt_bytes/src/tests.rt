@@ -1,27 +1,138 @@
 use crate::{
-    List, NoMemory, Number, Text, decimal, lower, quoted, read_decimal, read_hex, same_word, trim,
+    List, NoMemory, Number, Text, decimal, laws, lower, quoted, read_decimal, read_hex, same_word,
+    trim,
 };
-use std::alloc::Global;
+use std::alloc::{AllocError, Global};
 use std::test::Fail;
+
+#[test]
+fn digits_are_read_as_numbers(rt: HostRuntime) {
+    for (bytes, decimal, hexadecimal) in [
+        (b"".as_slice(), Number::NotANumber, Number::NotANumber),
+        (b"0", Number::Value(0), Number::Value(0)),
+        (b"0042", Number::Value(42), Number::Value(66)),
+        (b"ff", Number::NotANumber, Number::Value(255)),
+        (
+            b"FFFFFFFFFFFFFFFF",
+            Number::NotANumber,
+            Number::Value(u64::MAX),
+        ),
+        (
+            b"10000000000000000",
+            Number::Value(10_000_000_000_000_000),
+            Number::Overflow,
+        ),
+        (
+            b"18446744073709551615",
+            Number::Value(u64::MAX),
+            Number::Overflow,
+        ),
+        (b"18446744073709551616", Number::Overflow, Number::Overflow),
+        (
+            b"99999999999999999999x",
+            Number::NotANumber,
+            Number::NotANumber,
+        ),
+        (b"+1", Number::NotANumber, Number::NotANumber),
+        (b"g", Number::NotANumber, Number::NotANumber),
+    ] {
+        assert_eq!(rt; read_decimal(bytes), decimal, "{bytes:?}");
+        assert_eq!(rt; read_hex(bytes), hexadecimal, "{bytes:?}");
+    }
+}
+
+#[test]
+fn numbers_and_bytes_are_spelled(rt: HostRuntime) {
+    for (number, bytes) in [
+        (0, b"0".as_slice()),
+        (10, b"10"),
+        (u64::MAX, b"18446744073709551615"),
+    ] {
+        assert_eq!(rt; decimal(number).bytes(), bytes);
+    }
+    for (byte, bytes) in [
+        (b' ', b" ".as_slice()),
+        (b'~', b"~"),
+        (b'"', b"\\\""),
+        (b'\\', b"\\\\"),
+        (b'\r', b"\\r"),
+        (b'\n', b"\\n"),
+        (b'\t', b"\\x09"),
+        (0x7f, b"\\x7f"),
+        (0xff, b"\\xff"),
+    ] {
+        assert_eq!(rt; quoted(byte).bytes(), bytes);
+    }
+}
+
+#[test]
+fn case_and_blanks_are_passed_over(rt: HostRuntime) {
+    assert_eq!(rt;
+        (lower(b'A'), lower(b'Z'), lower(b'['), lower(0xc4)),
+        (b'a', b'z', b'[', 0xc4)
+    );
+    for (a, b, same) in [
+        (b"Keep-Alive".as_slice(), b"keep-alive".as_slice(), true),
+        (b"close", b"closed", false),
+        (b"", b"", true),
+    ] {
+        assert_eq!(rt; same_word(a, b), same);
+    }
+    for (bytes, want) in [
+        (b" \t a b \t".as_slice(), b"a b".as_slice()),
+        (b" \t ", b""),
+        (b"\ra\n", b"\ra\n"),
+    ] {
+        assert_eq!(rt; trim(bytes), want);
+    }
+}
+
+#[test]
+fn texts_and_lists_keep_their_order(rt: HostRuntime) -> Result<(), Fail> {
+    let mut text = Text::new(rt.alloc());
+    assert!(rt; text.is_empty());
+    text.push_all(b"a\x00")?;
+    text.push(0xff)?;
+    assert_eq!(rt; text.bytes(), b"a\x00\xff".as_slice());
+    assert_eq!(rt; text, Text::from_bytes(rt.alloc(), b"a\x00\xff")?);
+    assert_eq!(rt; text.len(), 3);
+
+    let mut list = List::new(rt.alloc());
+    assert!(rt; list.is_empty());
+    list.push(7u8)?;
+    list.push(8)?;
+    assert_eq!(rt; list.len(), 2);
+    assert_eq!(rt; list.replace(0, 9), 7);
+    assert_eq!(rt; list.as_slice(), [9, 8].as_slice());
+    assert_eq!(rt;
+        (list.get(1).copied(), list.get(2).copied()),
+        (Some(8), None)
+    );
+    assert_eq!(rt;
+        (list.pop(), list.pop(), list.pop()),
+        (Some(8), Some(9), None)
+    );
+    Ok(())
+}
 
 /// A type that leads back to itself, as a configuration value does.
 #[derive(Debug, Drop)]
-enum Value {
+enum Tree {
     Leaf(Text),
-    Branch(List<Value>),
+    Branch(List<Tree>),
 }
 
-fn leaf(alloc: Global, bytes: &[u8]) -> Result<Value, NoMemory> {
-    Ok(Value::Leaf(Text::from_bytes(alloc, bytes)?))
+fn leaf(alloc: Global, bytes: &[u8]) -> Result<Tree, NoMemory> {
+    Ok(Tree::Leaf(Text::from_bytes(alloc, bytes)?))
 }
 
-fn leaves(value: &Value) -> u64 {
-    match value {
-        Value::Leaf(_) => 1,
-        Value::Branch(values) => {
+fn leaves(tree: &Tree) -> u64 {
+    match tree {
+        Tree::Leaf(_) => 1,
+        Tree::Branch(trees) => {
             let mut count: u64 = 0;
-            for value in values.as_slice() {
-                count = count.saturating_add(leaves(value));
+            for tree in trees.as_slice() {
+                count = count.saturating_add(leaves(tree));
             }
             count
         }
@@ -34,8 +145,26 @@ fn a_type_leads_back_to_itself_through_a_list(rt: HostRuntime) -> Result<(), Fai
     inner.push(leaf(rt.alloc(), b"a")?)?;
     inner.push(leaf(rt.alloc(), b"b")?)?;
     let mut outer = List::new(rt.alloc());
-    outer.push(Value::Branch(inner))?;
+    outer.push(Tree::Branch(inner))?;
     outer.push(leaf(rt.alloc(), b"c")?)?;
-    assert_eq!(rt; leaves(&Value::Branch(outer)), 3);
+    assert_eq!(rt; leaves(&Tree::Branch(outer)), 3);
+    Ok(())
+}
+
+fn pushed(numbers: &mut Vec<u8>) -> Result<(), NoMemory> {
+    numbers.push(1)?;
+    Ok(())
+}
+
+#[test]
+fn want_of_memory_has_a_text(rt: HostRuntime) -> Result<(), Fail> {
+    let failure = NoMemory::from(AllocError);
+    assert_eq!(rt; failure.to_string(rt.alloc())?.as_str(), "out of memory");
+    let mut numbers = Vec::new(rt.alloc());
+    assert_eq!(rt; pushed(&mut numbers), Ok(()));
+    laws::digits_are_read_back();
+    laws::quoted_bytes_are_read_back();
+    laws::quoted_texts_are_read_in_one_way();
+    laws::blanks_alone_are_trimmed();
     Ok(())
 }
