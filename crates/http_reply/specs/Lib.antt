@@ -1,0 +1,4 @@
+pub mod FieldLines
+pub mod Phrases
+pub mod Replies
+pub mod Spelled
