@@ -1,0 +1,10 @@
+pub mod Steps
+pub mod NodeSteps
+pub mod LooseSteps
+pub mod NodeBox
+pub mod Shared
+pub mod Seen
+pub mod Last
+pub mod Bytes
+pub mod Keeping
+pub mod Growing

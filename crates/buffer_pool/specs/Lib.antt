@@ -1,0 +1,9 @@
+pub mod Edits
+pub mod Held
+pub mod Kept
+pub mod Lending
+pub mod Links
+pub mod Pool
+pub mod Shown
+pub mod State
+pub mod Walking
