@@ -40,6 +40,7 @@ pub grown_kept : (p : PoolState) (k : ℕ) → Kept p [] (grown p k) []
 grown_kept p k = record {
   rises = omega arith;
   counts = λ n. omega (arith, places_append n p.free (numbers_from p.made k), places_from n p.made k);
+  total = omega (arith, length_grown p k);
 }
 
 spare_after : (p q : PoolState) (k : ℕ) → q ≡ grown p k → length q.free ≡ length p.free + k

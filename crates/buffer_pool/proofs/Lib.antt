@@ -1,4 +1,5 @@
 pub mod Steps
+pub mod Cells
 pub mod NodeSteps
 pub mod LooseSteps
 pub mod NodeBox

@@ -1,5 +1,5 @@
 -- The machine values of a `Node` and of `Nodes`, and what they own, taken apart and made. Assumes `Logic`.
-use Rattle.std.proofs.Common.{suc, subst, ◌≡◌, ℕ, ◌<◌, List, [], ◌∷◌, ◌++◌, length, refl, ap, ◌∙◌, arith}
+use Rattle.std.proofs.Common.{◌≡◌, ℕ, List, [], ◌∷◌, ◌++◌, refl, ap, ◌∙◌}
 use seplogic.Ra.Ura.{Ura}
 use base.Fraction.{full_share}
 use base.Stored.{Gv}
@@ -31,7 +31,7 @@ use Rattle.buffer_pool.specs.contracts.buffer.Buffer as B
 use Rattle.buffer_pool.proofs.buffer.Buffer.TheLaws as B-laws
 use Rattle.buffer_pool.specs.contracts.node.Node as N
 use Rattle.buffer_pool.specs.contracts.nodes.Nodes as Ns
-use Rattle.buffer_pool.specs.Links.{Cell, states_of, owned_at, first_or, last_or, links}
+use Rattle.buffer_pool.specs.Links.{Cell, owned_at, links}
 
 abbrev pub Z : RattleType
 Z = heap.the_row
@@ -130,53 +130,6 @@ module _ {M : Type 1} {𝓤 : Ura M} (𝓛 : Logic 𝓤) where
       qed 𝓛 (‵ (links (x ∷ y ∷ cs ++ c ∷ ds) p) ∷ []) ∵ fsplit ! $ move ! (1 ∷ []) $
       use1 𝓛 (‵ (links (y ∷ cs) c.0) ⊛ ‵ (links (c ∷ ds) p)) (links_split (y ∷ cs) c ds p) $ split ! $ move ! (2 ∷ 0 ∷ []) $ fjoin ! $ done !
 
-pub last_or-snoc : (cs : List Cell) (c : Cell) (p : Ptr) → last_or (cs ++ c ∷ []) p ≡ c.0
-last_or-snoc [] c p = refl
-last_or-snoc (x ∷ cs) c p = last_or-snoc cs c x.0
-
-pub first_or-more : (cs ds : List Cell) (p : Ptr) → 0 < length cs → first_or (cs ++ ds) p ≡ first_or cs p
-first_or-more [] ds p h = absurd (omega arith)
-first_or-more (x ∷ cs) ds p h = refl
-
-pub uncons : {Y : Type 0} (xs : List Y) → 0 < length xs → (y : Y) × (ys : List Y) × (xs ≡ y ∷ ys)
-uncons [] p = absurd (omega arith)
-uncons (y ∷ ys) p = (y, ys, refl)
-
-last_of : {Y : Type 0} (x : Y) (xs : List Y) → (ys : List Y) × (y : Y) × (x ∷ xs ≡ ys ++ y ∷ [])
-last_of x [] = ([], x, refl)
-last_of x (z ∷ zs) = let on = last_of z zs in (x ∷ on.0, on.1, ap (λ l. x ∷ l) on.2)
-
-pub unsnoc : {Y : Type 0} (xs : List Y) → 0 < length xs → (ys : List Y) × (y : Y) × (xs ≡ ys ++ y ∷ [])
-unsnoc [] p = absurd (omega arith)
-unsnoc (x ∷ xs) p = last_of x xs
-
-pub first_or-same : (cs : List Cell) (p : Ptr) → first_or cs p ≡ first_or cs (first_or cs p)
-first_or-same [] p = refl
-first_or-same (x ∷ cs) p = refl
-
-pub last_or-rest : (cs : List Cell) (p t : Ptr) → t ≡ last_or cs p → t ≡ last_or cs t
-last_or-rest [] p t e = refl
-last_or-rest (x ∷ cs) p t e = e
-
-pub last_or-append : (cs : List Cell) (c : Cell) (ds : List Cell) (p : Ptr) → last_or (cs ++ c ∷ ds) p ≡ last_or ds c.0
-last_or-append [] c ds p = refl
-last_or-append (x ∷ cs) c ds p = last_or-append cs c ds x.0
-
+-- two pointers are a machine value of `Nodes`
 pub two_good : (p q : Ptr) → Good (layout Lr) (words p q)
 two_good p q = as_fields (ty_ptr ∷ ty_ptr ∷ []) (ptr_val p ∷ ptr_val q ∷ []) (Ptr-Good p, (Ptr-Good q, tt))
-
-pub states-length : (cs : List Cell) → length (states_of cs) ≡ length cs
-states-length [] = refl
-states-length (c ∷ cs) = ap suc (states-length cs)
-
-pub has : (cs : List Cell) → 0 < length (states_of cs) → 0 < length cs
-has [] h = h
-has (x ∷ cs) h = omega arith
-
-pub has_at : (cs : List Cell) (i : ℕ) → i < length (states_of cs) → i < length cs
-has_at [] i h = h
-has_at (x ∷ cs) i h = subst (λ n. i < n) (ap suc (states-length cs)) h
-
-pub last_or-any : (cs : List Cell) (p q : Ptr) → 0 < length cs → last_or cs p ≡ last_or cs q
-last_or-any [] p q h = absurd (omega (arith, h))
-last_or-any (x ∷ cs) p q h = refl

@@ -1,5 +1,5 @@
 -- What a `&` to the nodes shows. Assumes `Logic`.
-use Rattle.std.proofs.Common.{◌≡◌, ℕ, zero, suc, ◌+◌, ◌-◌, ◌<◌, List, [], ◌∷◌, length, refl, ap, ◌∙◌, arith, slice_index_or}
+use Rattle.std.proofs.Common.{ℕ, zero, suc, ◌+◌, ◌<◌, List, [], ◌∷◌, length, refl, arith}
 use seplogic.Ra.Ura.{Ura}
 use mir.Syntax.{ty_ptr}
 use mir.Val.{Val}
@@ -14,10 +14,10 @@ use denote.Struct.Laws.{RawPtr-laws}
 use denote.Struct.Lending.{lent_at}
 use denote.Opens.{Shut, unhide, hide}
 use denote.Steps.{looks, shuts}
-use Rattle.buffer_pool.specs.declared.node.Node.{Node}
 use Rattle.buffer_pool.specs.declared.nodes.Nodes.{Nodes}
 use Rattle.buffer_pool.proofs.NodeSteps.{Nr, Lr}
-use Rattle.buffer_pool.specs.Links.{Cell, state_of, states_of, first_or, last_or, links_lent, place_or}
+use Rattle.buffer_pool.proofs.Cells.{less, node_of}
+use Rattle.buffer_pool.specs.Links.{Cell, first_or, links_lent, place_or}
 
 module _ {M : Type 1} {𝓤 : Ura M} {𝓛 : Logic 𝓤} {K : Type 0} {Γ : List (Item 𝓤)} {G : Goal 𝓤 𝓛.H} where
   pub nodes_Seen : K → {κ : Lft} (d : Nodes) (b o : ℕ)
@@ -37,56 +37,10 @@ module _ {M : Type 1} {𝓤 : Ura M} {𝓛 : Logic 𝓤} {K : Type 0} {Γ : List
   pointer_out t z {part = part} p b at = step (λ s.
       feq_i t (List Val) (ptr_val p ∷ []) (ptr_val p ∷ []) refl $ move t (1 ∷ 0 ∷ []) $ shuts t z RawPtr part p (ptr_val p ∷ []) b at $ s)
 
-less : (c : Cell) (cs : List Cell) (i : ℕ) → suc i < length (c ∷ cs) → i < length cs
-less c cs i h = omega (arith, h)
-
--- the i-th node as it lies in memory
-pub node_of : (cs : List Cell) (p : Ptr) (i : ℕ) → i < length cs → Node
-node_of [] p i h = absurd (omega (arith, h))
-node_of (c ∷ cs) p zero h = record c.1 { next = first_or cs p }
-node_of (c ∷ cs) p (suc i) h = node_of cs p i (less c cs i h)
-
-pub node_of-state : (cs : List Cell) (p : Ptr) (i : ℕ) (h : i < length cs) → state_of (node_of cs p i h) ≡ slice_index_or (states_of cs) i (state_of (node_of cs p i h))
-unfolding node_of
-node_of-state [] p i h = absurd (omega (arith, h))
-node_of-state (c ∷ cs) p zero h = refl
-node_of-state (c ∷ cs) p (suc i) h = node_of-state cs p i (less c cs i h)
-
-first_or-place : (cs : List Cell) (p q : Ptr) → 0 < length cs → first_or cs p ≡ place_or cs zero q
-first_or-place [] p q h = absurd (omega (arith, h))
-first_or-place (c ∷ cs) p q h = refl
-
-pub node_of-next : (cs : List Cell) (p q : Ptr) (i : ℕ) (h : i < length cs) → suc i < length cs → (node_of cs p i h).next ≡ place_or cs (suc i) q
-unfolding node_of
-node_of-next [] p q i h m = absurd (omega (arith, h))
-node_of-next (c ∷ cs) p q zero h m = first_or-place cs p q (less c cs zero m)
-node_of-next (c ∷ cs) p q (suc i) h m = node_of-next cs p q i (less c cs i h) (less c cs (suc i) m)
-
-pub head_place : (cs : List Cell) (p q : Ptr) → 0 < length (states_of cs) → p ≡ first_or cs q → p ≡ place_or cs 0 p
-head_place [] p q h e = absurd (omega (arith, h))
-head_place (c ∷ cs) p q h e = e
-
-last_place : (c : Cell) (cs : List Cell) (p q : Ptr) → last_or cs c.0 ≡ place_or (c ∷ cs) (length cs) q
-last_place c [] p q = refl
-last_place c (d ∷ cs) p q = last_place d cs p q
-
-items-length : (cs : List Cell) → length (states_of cs) ≡ length cs
-items-length [] = refl
-items-length (c ∷ cs) = ap suc (items-length cs)
-
-lens : (c : Cell) (cs : List Cell) → length cs ≡ length (states_of (c ∷ cs)) - 1
-lens c cs = omega (arith, items-length cs)
-
-pub tail_place : (cs : List Cell) (p q : Ptr) → 0 < length (states_of cs) → p ≡ last_or cs q → p ≡ place_or cs (length (states_of cs) - 1) p
-tail_place [] p q h e = absurd (omega (arith, h))
-tail_place (c ∷ cs) p q h e = e ∙ last_place c cs p p ∙ ap (λ n. place_or (c ∷ cs) n p) (lens c cs)
-
+-- of what a `&` to the chain holds, the part for the node at index i
 module _ {M : Type 1} {𝓤 : Ura M} (𝓛 : Logic 𝓤) (κ : Lft) where
   pub node_lent : (cs : List Cell) (p q : Ptr) (i : ℕ) (h : i < length cs) → ent 𝓤 (sem 𝓛 (links_lent cs p κ)) (sem 𝓛 (lent_at Nr (place_or cs i q) (node_of cs p i h) κ))
   unfolding node_of
   node_lent [] p q i h = absurd (omega (arith, h))
   node_lent (c ∷ cs) p q zero h = fst∗ 𝓤 _ (sem 𝓛 (links_lent cs p κ))
   node_lent (c ∷ cs) p q (suc i) h = via 𝓤 _ (snd∗ 𝓤 (sem 𝓛 (lent_at Nr c.0 (record c.1 { next = first_or cs p }) κ)) _) (node_lent cs p q i (less c cs i h))
-
-pub one_more : (i : ℕ) → suc i ≡ i + 1
-one_more i = omega arith

@@ -21,6 +21,8 @@ pub record Kept (old : PoolState) (given : List ℕ) (new : PoolState) (answer :
   pub rises : old.made ≤ new.made
   -- each number that the call made stands in one more place, and every other number in as many as before
   pub counts : (n : ℕ) → places n new.free + places n answer ≡ places n old.free + places n given + made_between old.made new.made n
+  -- so the sum of these counts rises by just what was made
+  pub total : length new.free + length answer + old.made ≡ length old.free + length given + new.made
 
 -- the spare nodes and `count` chunks that are held elsewhere are together at most all that were made
 abbrev pub HeldWithin : PoolState → ℕ → Type 0

@@ -56,7 +56,7 @@ impl ChunkList {
     }
 
     /// Puts bytes after those that the last chunk holds.
-    #[tactic(auto, using(crate::proofs::Last::states_set_last, crate::proofs::Last::length_set_last, crate::proofs::Keeping::numbers_with_last))]
+    #[tactic(auto, using(crate::proofs::Last::states_set_last, crate::proofs::Last::length_set_last, crate::proofs::Keeping::numbers_with_last, crate::proofs::Keeping::length_numbers))]
     pub fn put_back(&mut self, pool: &mut Pool, bytes: &[u8])
         requires nonempty { 0 < length self.old }
         requires room { length bytes.now ≤ (last_of self.old).room }
@@ -70,7 +70,7 @@ impl ChunkList {
     }
 
     /// Moves the held bytes of the last chunk to the beginning of their buffer.
-    #[tactic(auto, using(crate::proofs::Last::states_set_last, crate::proofs::Last::length_set_last, crate::proofs::Keeping::numbers_with_last))]
+    #[tactic(auto, using(crate::proofs::Last::states_set_last, crate::proofs::Last::length_set_last, crate::proofs::Keeping::numbers_with_last, crate::proofs::Keeping::length_numbers))]
     pub fn pack_back(&mut self, pool: &mut Pool)
         requires nonempty { 0 < length self.old }
         ensures list { self.new ≡ with_last self.old (packed (last_of self.old)) }

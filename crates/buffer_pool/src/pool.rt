@@ -120,7 +120,7 @@ impl Pool {
     }
 
     /// Takes a chunk back. It is free from now on, behind those that are free already.
-    #[tactic(auto, using(crate::proofs::Keeping::places_append, crate::proofs::Keeping::numbers_append, crate::proofs::Keeping::length_numbers))]
+    #[tactic(auto, using(crate::proofs::Keeping::length_numbers))]
     pub fn give(&mut self, chunk: Chunk)
         requires lent { length self.old.free < self.old.made }
         ensures pool { self.new ≡ record self.old { free = self.old.free ++ chunk.number ∷ [] } }

@@ -1,6 +1,7 @@
 -- `join` lets the last node point to the first of the others. Assumes `Logic`.
 use Rattle.buffer_pool.proofs.Steps.{◌≡◌, ◌<◌, List, [], ◌∷◌, ◌++◌, length, refl, sym, ap, ◌∙◌, map-append, Fn, named, Val, vptr, vunit, SProp, ftrue, flft, Env, WpFn, fact, tables, ‵, raw, ◌⊛◌, prop, at_ret, ◌$◌, ◌∵◌, !, qed, move, keep, use1, use2, split, join, rewrite, regoal, fsplit, fsplit3, fjoin, fjoin3, feq_i, feq_l, suffices, frame, done, whole, sub, look_in, store_in, stop, fld, load, unit_lit, of_opd, assigns, assigns_last, first, blocks, exec, returns, enter, alloc_all, pass_all, free_all, look_at, get, get_in, through, sets, is, env, yes, owns, Ptr, ptr_val, MutRef, plain, nothing, heard, says, Stays, stay_dropped, stay_ref, walk_of, ends_at, Goes-ref, Goes-blank, Ptr-Good, after, proved_at}
-use Rattle.buffer_pool.proofs.NodeSteps.{has, Lr, words, two_good, uncons, unsnoc, last_or-append, nodes_had, links_append, links_split, last_or-snoc, first_or-more, nodes_opens, nodes_closes, node_opens, node_closes}
+use Rattle.buffer_pool.proofs.NodeSteps.{Lr, words, two_good, nodes_had, links_append, links_split, nodes_opens, nodes_closes, node_opens, node_closes}
+use Rattle.buffer_pool.proofs.Cells.{has, uncons, unsnoc, last_or-append, last_or-snoc, first_or-more}
 use Rattle.buffer_pool.specs.declared.nodes.Nodes.{Nodes}
 use Rattle.buffer_pool.specs.Links.{Cell, state_of, states_of, owned_at, first_or, last_or, links}
 use Rattle.buffer_pool.specs.contracts.nodes.Nodes.join.{ended, clauses}

@@ -1,8 +1,9 @@
 -- `last_mut` lends the last node, and the nodes follow it. Assumes `Logic`.
 use Rattle.buffer_pool.proofs.Steps.{◌≡◌, ℕ, ◌<◌, List, [], ◌∷◌, ◌++◌, length, refl, sym, ap, ◌∙◌, full_share, Fn, named, Val, vptr, SProp, ent, sep, never, fst∗, Fml, GName, ftrue, fsep, flft, Env, WpFn, Ura, Logic, sem, fact, tables, ‵, raw, ◌⊛◌, some, later, prop, at_ret, ◌$◌, ◌∵◌, !, qed, by, move, keep, drop, use1, use2, split, join, await, pick, group, rewrite, regoal, fsplit, fsplit3, fjoin, fjoin3, fpack, feq_l, suffices, frame, done, whole, sub, look_in, stop, fld, load, of_opd, addr, first, blocks, exec, returns, enter, alloc_all, pass_all, free_all, look_at, get, through, sets, sets_last, is, env, no, owns, cell_at, part_at, mem, Ptr, block_ptr, null_ptr, ptr_val, in_a_block, MutRef, follows, Part, lends_Part, plain, mut_ref_to, nothing, heard, says, Stays, stay_dropped, walk_of, ends_at, Goes-spent_ref, after, proved_at}
 use denote.Memory.{part_of}
-use Rattle.buffer_pool.proofs.NodeSteps.{has, Nr, Lr, words, token, unsnoc, links_append, links_split, last_or-snoc, nodes_opens, nodes_made}
+use Rattle.buffer_pool.proofs.NodeSteps.{Nr, Lr, words, token, links_append, links_split, nodes_opens, nodes_made}
 use Rattle.buffer_pool.proofs.Last.{set_last-snoc, last_state}
+use Rattle.buffer_pool.proofs.Cells.{has, unsnoc, last_or-snoc}
 use Rattle.buffer_pool.specs.declared.node.Node.{Node}
 use Rattle.buffer_pool.specs.declared.nodes.Nodes.{Nodes}
 use Rattle.buffer_pool.specs.Lending.{ending_with}

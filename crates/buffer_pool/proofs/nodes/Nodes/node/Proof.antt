@@ -1,7 +1,8 @@
 -- `node` lends a node. Assumes `Logic`.
 use Rattle.buffer_pool.proofs.Steps.{◌≡◌, ℕ, suc, ◌<◌, List, [], ◌∷◌, ◌++◌, length, refl, sym, ap, subst, ◌∙◌, w64, Fn, named, Val, vint, vptr, SProp, never, fst∗, ftrue, flft, Env, WpFn, sem, fact, tables, ‵, raw, ◌⊛◌, prop, at_ret, ◌$◌, ◌∵◌, !, qed, move, keep, drop, use1, split, join, rewrite, regoal, fsplit, fsplit3, fjoin, feq_i, feq_l, flt_l, suffices, done, stop, of_opd, addr, first, blocks, exec, returns, enter, alloc_all, pass_all, free_all, look_at, get, through, sets, sets_last, env, yes, RefOf, RawPtr, u64, owns, shared_of, Ptr, ptr_val, in_a_block, ShrRef, plain, nothing, heard, hide, lent_at, says, Stays, stay_dropped, walk_of, ends_at, Goes-dropped, after, proved_at}
-use Rattle.buffer_pool.proofs.NodeSteps.{Nr, Lr, has_at}
-use Rattle.buffer_pool.proofs.Seen.{one_more, nodes_Seen, node_of, node_of-state, node_of-next, node_lent}
+use Rattle.buffer_pool.proofs.NodeSteps.{Nr, Lr}
+use Rattle.buffer_pool.proofs.Seen.{nodes_Seen, node_lent}
+use Rattle.buffer_pool.proofs.Cells.{has_at, one_more, node_of, node_of-state, node_of-next}
 use Rattle.buffer_pool.specs.declared.node.Node.{Node}
 use Rattle.buffer_pool.specs.declared.nodes.Nodes.{Nodes}
 use Rattle.buffer_pool.specs.Links.{states_of, place_or}

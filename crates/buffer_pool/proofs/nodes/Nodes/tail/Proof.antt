@@ -1,7 +1,8 @@
 -- `tail` reads the pointer to the last node. Assumes `Logic`.
 use Rattle.buffer_pool.proofs.Steps.{◌+◌, List, [], ◌∷◌, ◌++◌, refl, Fn, named, Val, vptr, SProp, ftrue, flft, WpFn, tables, ‵, ◌⊛◌, prop, ◌$◌, ◌∵◌, !, qed, move, keep, split, join, regoal, fsplit, fjoin, feq_i, feq_l, suffices, done, look, stop, fld, load, of_opd, returns, enter, alloc_all, pass_all, free_all, look_at, through, sets, yes, RefOf, owns, ptr_val, ShrRef, plain, nothing, says, Stays, stay_dropped, walk_of, ends_at, Goes-dropped, Ptr-Good, proved_at}
 use Rattle.buffer_pool.proofs.NodeSteps.{Lr}
-use Rattle.buffer_pool.proofs.Seen.{nodes_Seen, pointer_in, pointer_out, tail_place}
+use Rattle.buffer_pool.proofs.Seen.{nodes_Seen, pointer_in, pointer_out}
+use Rattle.buffer_pool.proofs.Cells.{tail_place}
 use Rattle.buffer_pool.specs.declared.nodes.Nodes.{Nodes}
 use Rattle.buffer_pool.specs.contracts.nodes.Nodes.tail.{ended, clauses}
 use Rattle.buffer_pool.specs.contracts.nodes.Nodes.tail.Key.{name as #self}

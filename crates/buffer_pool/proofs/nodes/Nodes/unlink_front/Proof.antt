@@ -1,7 +1,8 @@
 -- `unlink_front` takes the first node out. Assumes `Logic`.
 use Rattle.buffer_pool.proofs.Steps.{◌≡◌, ◌<◌, List, [], ◌∷◌, ◌++◌, length, refl, ap, ◌∙◌, Fn, named, Val, vptr, SProp, ftrue, flft, Env, WpFn, fact, tables, ‵, raw, ◌⊛◌, prop, at_ret, ◌$◌, ◌∵◌, !, qed, move, keep, split, join, rewrite, regoal, fsplit, fsplit3, fjoin, fjoin3, feq_i, feq_l, suffices, frame, done, whole, sub, agg, look_in, store_in, stop, fld, load, of_opd, and_then, no_more, assigns, first, blocks, exec, returns, enter, alloc_all, pass_all, free_all, look_at, get, through, sets, sets_last, is, env, owns, Ptr, block_ptr, ptr_val, MutRef, plain, nothing, heard, says, Stays, stay_ref, walk_of, ends_at, Goes-ref, Ptr-Good, after, proved_at}
-use Rattle.buffer_pool.proofs.NodeSteps.{has, Lr, uncons, first_or-same, last_or-rest, nodes_opens, nodes_closes, node_opens, node_closes}
+use Rattle.buffer_pool.proofs.NodeSteps.{Lr, nodes_opens, nodes_closes, node_opens, node_closes}
 use Rattle.buffer_pool.proofs.LooseSteps.{lone_word, lone_good, loose_made}
+use Rattle.buffer_pool.proofs.Cells.{has, uncons, first_or-same, last_or-rest}
 use Rattle.buffer_pool.specs.declared.node.Node.{Node}
 use Rattle.buffer_pool.specs.declared.nodes.Nodes.{Nodes}
 use Rattle.buffer_pool.specs.Links.{Cell, states_of, first_or, last_or, links}
