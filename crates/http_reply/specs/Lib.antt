@@ -1,4 +1,5 @@
 pub mod FieldLines
 pub mod Phrases
+pub mod Reading
 pub mod Replies
 pub mod Spelled

@@ -6,9 +6,13 @@
 #![tactic(auto)]
 
 mod fields;
+pub mod laws;
 mod phrases;
 mod reply;
 
 pub use fields::Fields;
 pub use phrases::phrase;
 pub use reply::{Spelling, error_reply, reply_head};
+
+#[cfg(test)]
+mod tests;
