@@ -1,0 +1,53 @@
+-- What each answer of files means.
+use Rattle.std.specs.Prelude.{◌≡◌, ℕ, ◌<◌, ◌^◌, List, length, None, true, false}
+use Rattle.lt_world.specs.declared.files.FileCall.TheVariants as call
+use Rattle.lt_world.specs.declared.net.Owner.{Owner}
+use Rattle.lt_world.specs.declared.files.Found.{Found}
+use Rattle.lt_world.specs.declared.files.Found.TheVariants as found
+use Rattle.lt_world.specs.declared.files.Opened.{Opened}
+use Rattle.lt_world.specs.declared.files.Opened.TheVariants as opens
+use Rattle.lt_world.specs.Causes.{Rose}
+use Rattle.lt_world.specs.Disk.{Node, Missing, Directory, File, Disk, ends_in_slash, asked, opened}
+
+-- a call that answers for want of memory isn't counted
+abbrev pub found_disk : Found → Owner → Disk → Disk
+found_disk found.NoMemory owner disk = disk
+found_disk found.Failed owner disk = asked call.Find owner true disk
+found_disk answer owner disk = asked call.Find owner false disk
+
+-- the answer is what the tree has
+abbrev pub FoundRight : Found → Node → Type 0
+FoundRight (found.File size time) node = (bytes : List ℕ) × (node ≡ File bytes time) × (length bytes ≡ size)
+FoundRight found.Directory node = node ≡ Directory
+FoundRight found.Missing node = node ≡ Missing
+FoundRight answer node = Unit {0}
+
+-- a file has fewer than 2^62 bytes, and its path has no final slash
+abbrev pub FoundWithin : Found → List ℕ → Type 0
+FoundWithin (found.File size time) path = (size < 2 ^ 62) × (ends_in_slash path ≡ false)
+FoundWithin answer path = Unit {0}
+
+abbrev pub FoundCause : Found → ℕ → ℕ → Type 0
+FoundCause found.Failed before now = Rose before now
+FoundCause answer before now = Unit {0}
+
+-- a file that wasn't open gets the bytes of the path
+pub record OpensFile (file size time : ℕ) (owner : Owner) (path : List ℕ) (before after : Disk) : Type 0 where
+  pub bytes : List ℕ
+  pub is_there : before.tree path ≡ File bytes time
+  pub has_size : length bytes ≡ size
+  pub fresh : before.table file ≡ None
+  pub after_is : after ≡ opened file bytes (asked call.Open owner false before)
+
+abbrev pub Opens : Opened → Owner → List ℕ → Disk → Disk → Type 0
+Opens (opens.File file size time) owner path before after = OpensFile file.0 size time owner path before after
+Opens opens.Failed owner path before after = after ≡ asked call.Open owner true before
+Opens opens.NoMemory owner path before after = after ≡ before
+
+abbrev pub OpenedWithin : Opened → List ℕ → Type 0
+OpenedWithin (opens.File file size time) path = (size < 2 ^ 62) × (ends_in_slash path ≡ false)
+OpenedWithin answer path = Unit {0}
+
+abbrev pub OpenedCause : Opened → ℕ → ℕ → Type 0
+OpenedCause opens.Failed before now = Rose before now
+OpenedCause answer before now = Unit {0}

@@ -1,0 +1,17 @@
+pub mod Answers
+pub mod Causes
+pub mod Disk
+pub mod FileAnswers
+pub mod FileRuns
+pub mod Memory
+pub mod PlaceView
+pub mod Plans
+pub mod SinkRuns
+pub mod SinkView
+pub mod SlotView
+pub mod Slots
+pub mod Standing
+pub mod Streams
+pub mod TextAnswers
+pub mod TextRuns
+pub mod Trace

@@ -1,0 +1,12 @@
+-- A sink in memory as contracts see it.
+use Rattle.std.specs.Prelude.{◌≤◌, vec_len, vec_capacity}
+use Rattle.lt_world.specs.declared.mem_sink.MemSink.TheInside.{Inside}
+use Rattle.lt_world.specs.SinkRuns.{Poured}
+
+abbrev pub poured_of : Inside → Poured
+poured_of a = record { bytes = a.bytes.items; room = a.room; fails = a.fails; made = a.made; faults = a.faults }
+
+-- the memory of the whole room is there
+pub record HasRoom (a : Inside) : Type 0 where
+  pub filled : vec_len a.bytes ≤ a.room
+  pub reserved : a.room ≤ vec_capacity a.bytes

@@ -1,0 +1,3 @@
+/// A call to the outside failed. Its object's count of faults rose in that call.
+#[derive(Clone, Copy, Debug, PartialEq, Eq)]
+pub struct Fault;
