@@ -1,0 +1,6 @@
+pub mod Symbols
+pub mod Grammar
+pub mod Values
+pub mod Machine
+pub mod Refusal
+pub mod Answers
