@@ -50,10 +50,10 @@ OnEvent (event.Readable link) P = P
 OnEvent (event.Writable link) P = P
 OnEvent other P = Unit {0}
 
--- each answer of `next` but Over and NoMemory uses up an event, and after Over none is left
+-- each answer of `next` but Over and NoMemory uses up an event; after Over none is left, and NoMemory loses none
 abbrev pub UsesEvent : Event → ℕ → ℕ → Type 0
 UsesEvent event.Over before after = after ≡ 0
-UsesEvent event.NoMemory before after = after ≤ before
+UsesEvent event.NoMemory before after = after ≡ before
 UsesEvent other before after = after < before
 
 abbrev pub read_act : Got → List ℕ → Act

@@ -3,6 +3,7 @@ pub mod Causes
 pub mod Disk
 pub mod FileAnswers
 pub mod FileRuns
+pub mod Laws
 pub mod Memory
 pub mod PlaceView
 pub mod Plans

@@ -1,5 +1,5 @@
 -- What files in memory hold, and what each call makes of it.
-use Rattle.std.specs.Prelude.{◌≡◌, ℕ, ◌-◌, List, [], ◌∷◌, ◌++◌, Option, None, false, if◌then◌else◌, ◌==◌}
+use Rattle.std.specs.Prelude.{◌≡◌, ℕ, ◌-◌, List, [], ◌∷◌, ◌++◌, Option, None, Bool, false, not, ◌&&◌, if◌then◌else◌, ◌==◌}
 use Rattle.std.specs.Str.{bytes_eq}
 use Rattle.lt_world.specs.declared.net.Owner.{Owner}
 use Rattle.lt_world.specs.declared.files.Call.{Call}
@@ -77,10 +77,13 @@ with_file_at path time bytes tree = with_node path (File bytes time) (with_direc
 abbrev pub with_directory_at : List ℕ → Tree → Tree
 with_directory_at path tree = with_node path Directory (with_directories (parents [] path) tree)
 
+abbrev pub begins_with_slash : List ℕ → Bool
+begins_with_slash [] = false
+begins_with_slash (byte ∷ path) = byte == 47
+
 -- the path begins with a slash and doesn't end with one
-pub record IsPath (path : List ℕ) : Type 0 where
-  pub begins : (rest : List ℕ) × (path ≡ 47 ∷ rest)
-  pub ends : ends_in_slash path ≡ false
+abbrev pub is_path : List ℕ → Bool
+is_path path = begins_with_slash path && not (ends_in_slash path)
 
 -- no files, no calls, no plans
 abbrev pub no_files : Stored

@@ -8,6 +8,7 @@
 mod content;
 mod fault;
 mod files;
+pub mod laws;
 mod log;
 mod mem_files;
 mod mem_sink;
@@ -29,3 +30,6 @@ pub use net::{Address, Dialled, Ending, Event, Got, Link, Net, NextKind, Owner, 
 pub use streams::{Sink, Source};
 pub use texts::{Fetch, FetchKind, Fetched, Texts};
 pub use waits::Waits;
+
+#[cfg(test)]
+mod tests;

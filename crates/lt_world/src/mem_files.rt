@@ -1,9 +1,9 @@
 // Files in memory, some of whose calls fail as planned. They tell all.
-ghost use Rattle.std.specs.Prelude.{◌≡◌, ◌+◌, ◌≤◌, ◌<◌, length, [], ◌∷◌, ◌++◌, None, OnOk, OnErr, ℕ, List, Some};
+ghost use Rattle.std.specs.Prelude.{true, ◌≡◌, ◌+◌, ◌≤◌, ◌<◌, length, [], ◌∷◌, ◌++◌, None, OnOk, OnErr, ℕ, List, Some};
 ghost use Rattle.lt_world.specs.Disk.{IsFileAt};
 ghost use Rattle.lt_world.specs.FileAnswers.{FoundRight, FoundWithin, OpenedWithin};
 ghost use Rattle.lt_world.specs.FileRuns.{planned, after_find, after_open, after_read, after_release, FindPlanned, OpenPlanned, ReadPlanned, OpensAt, ReadsAt};
-ghost use Rattle.lt_world.specs.Memory.{no_files, tree_of, table_by, with_file_at, with_directory_at, IsPath};
+ghost use Rattle.lt_world.specs.Memory.{no_files, tree_of, table_by, with_file_at, with_directory_at, is_path};
 ghost use Rattle.lt_world.specs.Plans.{is_due};
 ghost use Rattle.lt_world.specs.Slots.{closes_slot};
 
@@ -63,7 +63,7 @@ impl MemFiles {
     /// Makes a path a file of these bytes, and each of its parents a directory. What stands below the path stays, and so
     /// do the bytes of opened files. 2^62 bytes or more are answered as want of memory.
     pub fn add_file(&mut self, path: &[u8], time: u64, bytes: &[u8]) -> Result<(), NoMemory>
-        requires { IsPath path.now }
+        requires { is_path path.now ≡ true }
         ensures tree { OnOk result (tree_of self.new ≡ with_file_at path.now time bytes.now (tree_of self.old)) }
         ensures rest { self.new ≡ record self.old { places = self.new.places } }
         ensures err { OnErr result (self.new ≡ self.old) }
@@ -74,7 +74,7 @@ impl MemFiles {
 
     /// Makes a path and each of its parents a directory.
     pub fn add_dir(&mut self, path: &[u8]) -> Result<(), NoMemory>
-        requires { IsPath path.now }
+        requires { is_path path.now ≡ true }
         ensures tree { OnOk result (tree_of self.new ≡ with_directory_at path.now (tree_of self.old)) }
         ensures rest { self.new ≡ record self.old { places = self.new.places } }
         ensures err { OnErr result (self.new ≡ self.old) }
