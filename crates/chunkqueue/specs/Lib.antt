@@ -1,0 +1,6 @@
+pub mod Chain
+pub mod Inside
+pub mod Items
+pub mod Plain
+pub mod Ranged
+pub mod Store
