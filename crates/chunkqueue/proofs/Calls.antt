@@ -1,5 +1,5 @@
 -- What the calls of a plain queue make of its segments.
-use Rattle.std.proofs.Common.{zero, suc, ◌≡◌, ℕ, ◌+◌, ◌-◌, ◌==◌, ◌^◌, ◌≤◌, ◌<◌, List, [], ◌∷◌, ◌++◌, length, drop, map, Bool, true, false, nat_eq, arith, ap, sym, ◌∙◌, refl}
+use Rattle.std.proofs.Common.{zero, suc, ◌≡◌, ℕ, ◌+◌, ◌==◌, ◌^◌, ◌≤◌, ◌<◌, List, [], ◌∷◌, ◌++◌, length, drop, map, Bool, false, arith, ap, sym, ◌∙◌, refl}
 use Rattle.std.proofs.lemmas.Bool.Decides.{nat_tests}
 use Rattle.chunkqueue.specs.Ranged.{Ranged}
 use Rattle.chunkqueue.specs.Items.{Item, Byte, Contents, range, items_of, count_of, staged_of, front_of, staged_in, memory_front, Leads, staged_behind}

@@ -1,7 +1,6 @@
 -- A loop that copies bytes from segments into a buffer.
-use Rattle.std.proofs.Common.{zero, suc, ◌≡◌, ◌≢◌, ℕ, ◌+◌, ◌-◌, ◌≤◌, ◌<◌, min, List, [], ◌∷◌, ◌++◌, length, take, drop, arith, ap, sym, ◌∙◌, refl, append_assoc}
-use Rattle.std.proofs.lemmas.Grind.{common_steps}
-use Rattle.std.proofs.lemmas.List.{length-take, length-take-le, length-drop, length-append, take-append-le, drop-append-le, take_all, drop_all, take-append-drop, drop-drop}
+use Rattle.std.proofs.Common.{◌≡◌, ◌≢◌, ℕ, ◌+◌, ◌-◌, ◌≤◌, min, List, [], ◌∷◌, ◌++◌, length, take, drop, arith, ap, sym, ◌∙◌, refl, append_assoc}
+use Rattle.std.proofs.lemmas.List.{length-take, length-append, take-append-le, drop-append-le, take_all, drop_all, take-append-drop, drop-drop}
 use Rattle.chunkqueue.specs.Ranged.{Ranged}
 use Rattle.chunkqueue.specs.Plain.{memory_before}
 use Rattle.chunkqueue.specs.declared.segment.Segment.{Segment}

@@ -1,5 +1,5 @@
 -- Ranges of files as items.
-use Rattle.std.proofs.Common.{zero, suc, ◌≡◌, ℕ, ◌+◌, ◌-◌, ◌≤◌, ◌<◌, List, [], ◌∷◌, ◌++◌, length, take, drop, map, get_or, Option, Some, unwrap_or, arith, ap, sym, ◌∙◌, refl, drop-cons, add-one}
+use Rattle.std.proofs.Common.{zero, suc, ◌≡◌, ℕ, ◌+◌, ◌-◌, ◌≤◌, ◌<◌, List, [], ◌∷◌, ◌++◌, length, take, drop, get_or, Option, Some, unwrap_or, arith, ap, sym, ◌∙◌, refl, drop-cons, add-one}
 use Rattle.std.proofs.lemmas.List.{take-append-le, take-map, length-take-le, length-drop}
 use Rattle.lt_world.specs.Disk.{Table, Disk, HasRange, range_of}
 use Rattle.chunkqueue.specs.Items.{Item, FileByte, range, AllLie, item_byte, bytes_of}

@@ -1,11 +1,10 @@
 -- Segments, and the items that wait in them.
-use Rattle.std.proofs.Common.{zero, suc, ◌≡◌, ℕ, ◌+◌, ◌-◌, ◌==◌, ◌^◌, ◌≤◌, ◌<◌, List, [], ◌∷◌, ◌++◌, length, take, drop, map, Bool, true, false, if◌then◌else◌, nat_eq, arith, ap, sym, ◌∙◌, refl, append_assoc, lit<}
+use Rattle.std.proofs.Common.{zero, suc, ◌≡◌, ℕ, ◌+◌, ◌-◌, ◌==◌, ◌^◌, ◌≤◌, ◌<◌, List, [], ◌∷◌, ◌++◌, length, take, drop, map, Bool, true, false, if◌then◌else◌, arith, ap, sym, ◌∙◌, refl, append_assoc, lit<}
 use Rattle.std.proofs.lemmas.Bool.Decides.{nat_tests}
 use Rattle.std.proofs.lemmas.List.{length-take, length-map, length-drop, length-append, drop-map, drop-append-le, append-nil, drop_all, take-append-le, take-map}
 use Rattle.buffer_pool.specs.declared.buffer.TheConstants.{BUFFER_SIZE}
-use Rattle.chunkqueue.specs.Ranged.{Ranged}
-use Rattle.chunkqueue.specs.Items.{Item, Byte, FileByte, Contents, range, chunk_items, items_of, staged_in, Leads, staged_behind}
-use Rattle.chunkqueue.specs.Plain.{chunk_of, chunks_of, plain, front_of_segment, front_of_segments, segment_left, segment_after, segments_after, segment_unstaged, segments_unstaged, segments_joined, IsHeld, AllHeld, segment_staged, segment_items, NoneStaged, FirstStaged, IsPlain}
+use Rattle.chunkqueue.specs.Items.{Item, Byte, Contents, range, chunk_items, items_of, staged_in, Leads, staged_behind}
+use Rattle.chunkqueue.specs.Plain.{chunk_of, chunks_of, plain, front_of_segment, front_of_segments, segment_left, segment_after, segments_after, segments_unstaged, segments_joined, IsHeld, AllHeld, segment_staged, segment_items, NoneStaged, FirstStaged, IsPlain}
 use Rattle.chunkqueue.specs.declared.segment.Segment.{Segment}
 use Rattle.chunkqueue.specs.declared.segment.Segment.TheVariants.{Memory, File}
 use Rattle.chunkqueue.proofs.Ranges.{length-range, drop-range}

@@ -1,11 +1,11 @@
 -- What a read from a file stages.
-use Rattle.std.proofs.Common.{◌≡◌, ℕ, ◌+◌, ◌≤◌, ◌<◌, min, List, [], ◌∷◌, ◌++◌, length, take, Some, arith, ap, sym, ◌∙◌, refl}
+use Rattle.std.proofs.Common.{◌≡◌, ℕ, ◌<◌, min, List, [], ◌∷◌, ◌++◌, arith, ap, sym, ◌∙◌, refl}
 use Rattle.std.specs.Prelude.{Result, Ok, Err, OnOk}
 use Rattle.lt_world.specs.Disk.{Disk, HasRange}
 use Rattle.buffer_pool.specs.declared.buffer.TheConstants.{BUFFER_SIZE}
-use Rattle.chunkqueue.specs.Ranged.{Ranged, staged_from, bytes_staged}
-use Rattle.chunkqueue.specs.Items.{Item, Contents, range, items_of, staged_of, staged_in, AllLie, Shows, bytes_of}
-use Rattle.chunkqueue.specs.Plain.{chunks_of, plain, AllHeld, segment_items, segment_staged, SegmentLies, FirstLies, first_staged, staged_by, segments_unstaged}
+use Rattle.chunkqueue.specs.Ranged.{bytes_staged}
+use Rattle.chunkqueue.specs.Items.{Item, Contents, range, items_of, staged_of, staged_in, AllLie, Shows}
+use Rattle.chunkqueue.specs.Plain.{chunks_of, plain, AllHeld, segment_items, FirstLies, first_staged, staged_by, segments_unstaged}
 use Rattle.chunkqueue.specs.declared.segment.Segment.{Segment}
 use Rattle.chunkqueue.specs.declared.segment.Segment.TheVariants.{Memory, File}
 use Rattle.chunkqueue.proofs.Ranges.{lies-range, range_of-front}

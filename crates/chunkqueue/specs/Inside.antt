@@ -1,5 +1,5 @@
 -- What the fields of a file segment stand for.
-use Rattle.std.specs.Prelude.{◌≡◌, ◌+◌, ◌-◌, ◌^◌, ◌≤◌, ◌<◌, take, drop, vec_len}
+use Rattle.std.specs.Prelude.{◌≡◌, ◌+◌, ◌^◌, ◌≤◌, ◌<◌, take, drop, vec_len}
 use Rattle.chunkqueue.specs.Ranged.{Ranged}
 use Rattle.buffer_pool.specs.declared.buffer.TheConstants.{BUFFER_SIZE}
 use Rattle.chunkqueue.specs.declared.file_segment.FileSegment.TheInside.{Inside}

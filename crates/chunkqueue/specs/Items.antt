@@ -1,5 +1,5 @@
 -- What waits in a chunk queue: items, in chunks (lighttpd's chunk queue, chunk.c).
-use Rattle.std.specs.Prelude.{zero, suc, ◌≡◌, ℕ, ◌+◌, ◌≤◌, ◌<◌, min, List, [], ◌∷◌, ◌++◌, length, map, take, get_or, unwrap_or, Option, Some}
+use Rattle.std.specs.Prelude.{zero, suc, ◌≡◌, ℕ, ◌+◌, ◌≤◌, ◌<◌, min, List, [], ◌∷◌, ◌++◌, length, map, take, get_or, unwrap_or, Some}
 use Rattle.lt_world.specs.Disk.{Table}
 use Rattle.buffer_pool.specs.declared.buffer.TheConstants.{BUFFER_SIZE}
 

@@ -1,7 +1,7 @@
 -- The segments of a plain queue, and what its calls make of them.
-use Rattle.std.specs.Prelude.{◌≡◌, ℕ, ◌+◌, ◌-◌, ◌==◌, ◌≤◌, ◌<◌, ◌^◌, List, [], ◌∷◌, ◌++◌, map, take, drop, length, min, All, if◌then◌else◌}
+use Rattle.std.specs.Prelude.{◌≡◌, ℕ, ◌==◌, ◌≤◌, ◌<◌, ◌^◌, List, [], ◌∷◌, ◌++◌, map, take, drop, length, min, if◌then◌else◌}
 use Rattle.lt_world.specs.Disk.{Disk, HasRange}
-use Rattle.chunkqueue.specs.Ranged.{Ranged, without_front, unstaged, staged_from}
+use Rattle.chunkqueue.specs.Ranged.{without_front, unstaged, staged_from}
 use Rattle.chunkqueue.specs.Items.{Item, Chunk, Contents, Memory, Range, items_in, staging_by}
 use Rattle.buffer_pool.specs.declared.buffer.TheConstants.{BUFFER_SIZE}
 use Rattle.chunkqueue.specs.declared.segment.Segment.{Segment}

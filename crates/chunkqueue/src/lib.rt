@@ -1,4 +1,8 @@
-//! The chunk queue: bytes and ranges of opened files, in the order in which they leave.
+//! The chunk queue, in which bytes wait to be sent: bytes in memory and ranges of opened files.
+//! Promised: each call is its list operation on items, want of memory and a failed read change
+//! nothing, what is offered is the first bytes, and no buffer is lost or doubled.
+//! `Queue` says so of every queue; `PlainQueue` keeps a segment of memory for each push.
+//! Stands on `lt_bytes` (`NoMemory`), `lt_world` (`Files`) and `buffer_pool` (the words on buffers).
 #![tactic(auto)]
 
 mod chain;
@@ -19,3 +23,6 @@ pub type Chunks = PlainQueue;
 
 /// The owner of its buffers.
 pub type Store = PlainStore;
+
+#[cfg(test)]
+mod tests;

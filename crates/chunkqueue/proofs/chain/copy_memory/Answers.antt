@@ -1,6 +1,6 @@
 use Rattle.std.proofs.Common.{ap, sym, ◌∙◌}
 use Rattle.chunkqueue.specs.Plain.{memory_before}
-use Rattle.chunkqueue.proofs.Copying.{starts, copied_all, copied_more, copied_full, before-file, before-memory, nothing-before, still_copies}
+use Rattle.chunkqueue.proofs.Copying.{starts, copied_all, copied_more, copied_full, before-file, before-memory, still_copies}
 use Rattle.chunkqueue.proofs.chain.copy_memory.Goals as goal
 
 pub loop-segment-init : goal.loop-segment-init
