@@ -1,6 +1,8 @@
 //! Items that are owned, in order.
 ghost use Rattle.std.specs.Prelude.{◌≡◌, ◌<◌, [], ◌∷◌, ◌++◌, ◌↔◌, IsTrue, MatchOption, OnOk, OnErr, Some, length, slice_get, slice_set};
+ghost use Rattle.std.specs.Iterator.Adapters.{IterYieldsInOrder};
 ghost use Rattle.std.specs.Option.{option_copied};
+ghost use Rattle.std.specs.Slice.Iter.{iter_rest};
 
 use crate::NoMemory;
 use std::alloc::Global;
@@ -42,12 +44,22 @@ impl<T> List<T> {
         self.items.as_slice()
     }
 
+    /// The items, one after another.
+    pub fn iter(&self) -> slice::Iter<'_, T>
+        ensures rest { iter_rest result ≡ self.now }
+        ensures runs { IterYieldsInOrder T }
+    {
+        self.items.as_slice().iter()
+    }
+
+    /// How many items there are.
     pub fn len(&self) -> usize
         ensures { result ≡ length self.now }
     {
         self.items.len()
     }
 
+    /// Whether there is no item.
     pub fn is_empty(&self) -> bool
         ensures { IsTrue result ↔ (self.now ≡ []) }
     {

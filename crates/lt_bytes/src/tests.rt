@@ -91,6 +91,7 @@ fn case_and_blanks_are_passed_over(rt: HostRuntime) {
 fn texts_and_lists_keep_their_order(rt: HostRuntime) -> Result<(), Fail> {
     let mut text = Text::new(rt.alloc());
     assert!(rt; text.is_empty());
+    assert_eq!(rt; Text::with_capacity(rt.alloc(), 256)?, text);
     text.push_all(b"a\x00")?;
     text.push(0xff)?;
     assert_eq!(rt; text.bytes(), b"a\x00\xff".as_slice());
@@ -103,6 +104,12 @@ fn texts_and_lists_keep_their_order(rt: HostRuntime) -> Result<(), Fail> {
     list.push(8)?;
     assert_eq!(rt; list.len(), 2);
     assert_eq!(rt; list.replace(0, 9), 7);
+    let mut sum: u32 = 0;
+    for item in list.iter() {
+        sum = sum.saturating_add(u32::from(*item));
+    }
+    assert_eq!(rt; sum, 17);
+    assert_eq!(rt; list.iter().filter(|item| **item > 8).count(), 1);
     assert_eq!(rt; list.as_slice(), [9, 8].as_slice());
     assert_eq!(rt;
         (list.get(1).copied(), list.get(2).copied()),

@@ -31,6 +31,16 @@ impl Text {
         }
     }
 
+    /// An empty text with room for so many bytes, so that fewer calls move what is there.
+    pub fn with_capacity(alloc: Global, capacity: usize) -> Result<Text, NoMemory>
+        ensures { IfOk result (λ text. text ≡ []) }
+    {
+        match Vec::with_capacity(alloc, capacity) {
+            Ok(bytes) => Ok(Text { bytes }),
+            Err(_) => Err(NoMemory),
+        }
+    }
+
     /// A text of these bytes.
     pub fn from_bytes(alloc: Global, bytes: &[u8]) -> Result<Text, NoMemory>
         ensures { IfOk result (λ text. text ≡ bytes.now) }
@@ -72,12 +82,14 @@ impl Text {
         bytes
     }
 
+    /// How many bytes there are.
     pub fn len(&self) -> usize
         ensures { result ≡ length self.now }
     {
         self.bytes.len()
     }
 
+    /// Whether there is no byte.
     pub fn is_empty(&self) -> bool
         ensures { IsTrue result ↔ (self.now ≡ []) }
     {
