@@ -33,7 +33,7 @@ impl Model for Fields {
 impl Fields {
     /// No fields yet; the allocator is kept for `add`.
     pub fn new(alloc: Global) -> Fields
-        ensures { result ≡ [] }
+        ensures empty { result ≡ [] }
     {
         Fields {
             lines: List::new(alloc),

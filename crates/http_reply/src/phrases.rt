@@ -5,7 +5,7 @@ ghost use Rattle.http_reply.specs.Phrases.{phrase};
 /// The phrase of a status, empty where it has none.
 #[tactic(auto, unfolding(crate::specs::Phrases::phrase))]
 pub fn phrase(status: u16) -> &'static [u8]
-    ensures { result.now ≡ phrase status }
+    ensures value { result.now ≡ phrase status }
 {
     match status {
         100 => b"Continue",

@@ -10,6 +10,9 @@ use crate::phrase;
 use lt_bytes::{NoMemory, Text, decimal};
 use std::alloc::Global;
 
+/// Room for the head of a file's reply, and for an error reply: most are written without growing.
+const TYPICAL_REPLY: usize = 256;
+
 /// What a head says beside its fields.
 #[derive(Clone, Copy, Debug)]
 pub struct Spelling<'a> {
@@ -29,9 +32,9 @@ pub struct Spelling<'a> {
 /// The head of a reply, up to and with its empty line.
 pub fn reply_head(alloc: Global, spelling: &Spelling<'_>, fields: &Fields) -> Result<Text, NoMemory>
     requires { ¬ (IsTrue spelling.now.last × IsTrue spelling.now.keep) }
-    ensures { IfOk result (λ text. text ≡ reply_head (parts_of spelling.now) fields.now) }
+    ensures head { IfOk result (λ text. text ≡ reply_head (parts_of spelling.now) fields.now) }
 {
-    let mut text = Text::new(alloc);
+    let mut text = Text::with_capacity(alloc, TYPICAL_REPLY)?;
     push_given(&mut text, spelling, fields)?;
     push_own(&mut text, spelling, fields)?;
     Ok(text)
@@ -47,20 +50,18 @@ pub fn error_reply(
     head_only: bool,
 ) -> Result<Text, NoMemory>
     requires { ¬ (IsTrue spelling.now.last × IsTrue spelling.now.keep) }
-    ensures { IfOk result (λ text. text ≡ error_reply (parts_of spelling.now) fields.now head_only) }
+    ensures reply { IfOk result (λ text. text ≡ error_reply (parts_of spelling.now) fields.now head_only) }
 {
-    let mut body = Text::new(alloc);
-    push_error_body(&mut body, spelling.status)?;
     let spelling = Spelling {
-        length: Some(body.len() as u64),
+        length: Some(error_length(spelling.status)),
         ..*spelling
     };
-    let mut text = Text::new(alloc);
+    let mut text = Text::with_capacity(alloc, TYPICAL_REPLY)?;
     push_given(&mut text, &spelling, fields)?;
     push_field(&mut text, b"Content-Type", b"text/plain")?;
     push_own(&mut text, &spelling, fields)?;
     if !head_only && !has_no_body(spelling.status) {
-        text.push_all(body.bytes())?;
+        push_error_body(&mut text, spelling.status)?;
     }
     Ok(text)
 }
@@ -162,6 +163,14 @@ fn push_server(text: &mut Text, fields: &Fields, tag: &[u8]) -> Result<(), NoMem
         return Ok(());
     }
     push_field(text, b"Server", tag)
+}
+
+/// The length of the body that `push_error_body` writes.
+fn error_length(status: u16) -> u64
+    ensures { result ≡ length (error_body status) }
+{
+    let digits = decimal(u64::from(status)).bytes().len();
+    (digits + phrase(status).len() + 2) as u64
 }
 
 fn push_error_body(text: &mut Text, status: u16) -> Result<(), NoMemory>
