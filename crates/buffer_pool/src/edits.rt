@@ -13,6 +13,7 @@ impl ChunkList {
         requires room { length bytes.now ≤ (first_of self.old).room }
         ensures list { self.new ≡ with_first self.old (put_in (first_of self.old) bytes.now) }
         ensures pool { pool.new ≡ filled_by pool.old (length bytes.now) }
+        ensures numbers { numbers self.new ≡ numbers self.old }
         ensures kept { Kept pool.old (numbers self.old) pool.new (numbers self.new) }
     {
         match self.pop_front() {
@@ -62,6 +63,7 @@ impl ChunkList {
         requires room { length bytes.now ≤ (last_of self.old).room }
         ensures list { self.new ≡ with_last self.old (put_in (last_of self.old) bytes.now) }
         ensures pool { pool.new ≡ filled_by pool.old (length bytes.now) }
+        ensures numbers { numbers self.new ≡ numbers self.old }
         ensures kept { Kept pool.old (numbers self.old) pool.new (numbers self.new) }
     {
         pool.fill(bytes.len());
@@ -75,6 +77,7 @@ impl ChunkList {
         requires nonempty { 0 < length self.old }
         ensures list { self.new ≡ with_last self.old (packed (last_of self.old)) }
         ensures pool { pool.new ≡ filled_by pool.old (length (last_of self.old).bytes) }
+        ensures numbers { numbers self.new ≡ numbers self.old }
         ensures kept { Kept pool.old (numbers self.old) pool.new (numbers self.new) }
     {
         let node = self.nodes.last_mut();
