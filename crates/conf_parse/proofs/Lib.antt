@@ -4,3 +4,4 @@ pub mod Sound
 pub mod Room
 pub mod Refused
 pub mod Public
+pub mod Printed

@@ -4,3 +4,4 @@ pub mod Values
 pub mod Machine
 pub mod Refusal
 pub mod Answers
+pub mod Print

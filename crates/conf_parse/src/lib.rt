@@ -8,12 +8,15 @@
 mod error;
 mod machine;
 mod parser;
+mod printer;
 mod stack;
 mod state;
+mod statements;
 mod symbol;
 mod tree;
 mod value;
 
 pub use error::ParseError;
 pub use parser::{MAX_NESTING, one_tree, parse};
+pub use statements::print;
 pub use tree::{Branch, Item, RawCondition, Statement, Term, Tree, What};
