@@ -5,8 +5,8 @@ ghost use Rattle.chunkqueue.specs.Store.{unused};
 use std::alloc::Global;
 use std::marker::Model;
 
-/// The owner of the buffers of plain queues: each segment has its own memory, so it keeps no node and makes none.
-#[derive(Drop)]
+/// The owner of the buffers of plain queues: each segment has its own memory, so it keeps no node
+/// and makes none. It is ended by `close`, as a pool is: it can't be dropped.
 pub struct PlainStore {
     alloc: Global,
 }
@@ -25,6 +25,11 @@ impl PlainStore {
         ensures { result ≡ unused }
     {
         PlainStore { alloc }
+    }
+
+    /// Ends the store.
+    pub fn close(self) {
+        let PlainStore { alloc: _ } = self;
     }
 
     pub(crate) fn alloc(&self) -> Global

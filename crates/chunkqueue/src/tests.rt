@@ -86,6 +86,7 @@ fn bytes_leave_before_the_range_behind_them(rt: HostRuntime) {
     queue.empty_into(&mut store);
     assert_eq!(rt; queue.len(), 0);
     queue.close(&mut store);
+    store.close();
 }
 
 #[test]
@@ -105,6 +106,7 @@ fn a_range_is_staged_piece_by_piece(rt: HostRuntime) {
     // 4,096 is 157 times 26 and 14 more.
     assert_eq!(rt; queue.front_bytes().first().copied(), Some(b'o'));
     queue.close(&mut store);
+    store.close();
 }
 
 #[test]
@@ -121,6 +123,7 @@ fn a_queue_goes_behind_another(rt: HostRuntime) {
     assert_eq!(rt; buf.as_slice(), b"ab".as_slice());
     more.close(&mut store);
     queue.close(&mut store);
+    store.close();
 }
 
 // A drop that called itself once for each segment would run out of stack.
@@ -134,4 +137,5 @@ fn a_long_queue_is_closed(rt: HostRuntime) {
     }
     assert_eq!(rt; queue.len(), 200_000);
     queue.close(&mut store);
+    store.close();
 }
