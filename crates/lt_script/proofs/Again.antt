@@ -1,0 +1,99 @@
+-- A line of the grammar is read.
+use Rattle.std.proofs.Common.{◌≡◌, ℕ, ◌≤◌, Bool, true, false, List, [], ◌∷◌, ◌++◌, length, get_or, refl, ap, sym, ◌∙◌, Some, codes, inl, inr, arith, append-nil, append_assoc}
+use Rattle.std.specs.Fmt.{decimal}
+use Rattle.lt_world.specs.declared.Address.{Address}
+use Rattle.lt_script.specs.declared.script.Name.{Name}
+use Rattle.lt_script.specs.declared.script.Step.TheVariants as step
+use Rattle.lt_script.specs.declared.script.ScriptFile.TheVariants as file
+use Rattle.lt_script.specs.declared.script.TheConstants.{MOST_NAME, MOST_TIME, MOST_FILL, MOST_TAKE, MOST_COUNT}
+use Rattle.lt_script.specs.declared.lines.Line.{Line}
+use Rattle.lt_script.specs.declared.lines.Line.TheVariants.{Skip, File, Step}
+use Rattle.lt_script.specs.Fields.{digits_len, number_at, name_at, address_at, octet_at, end_at}
+use Rattle.lt_script.specs.Lines.{line_of, accept_of, data_of, end_of, take_of, file_of, fill_of}
+use Rattle.lt_script.specs.Grammar.{name_text, IsName, address_text, IsAddress, IsLine, IsAccept, IsData, IsEnd, IsTake, IsFile, IsFill}
+use Rattle.lt_script.proofs.Numbers.{number_again, last_number}
+use Rattle.lt_script.proofs.Quoted.{quoted_again}
+
+named_by : (gate : Bool) (number : ℕ) → gate ≡ false → let name : Name = record { gate = false; number = number } in name ≡ record { gate = gate; number = number }
+named_by gate number client = ap (λ g. let name : Name = record { gate = g; number = number } in name) (sym client)
+
+name_again : (name : Name) (rest : List ℕ) → IsName name → digits_len rest ≡ 0 → name_at (name_text name ++ rest) ≡ Some (name, rest)
+unfolding name_at
+name_again name rest is stops =
+    rw (number_again 0 MOST_NAME name.number rest (omega arith) is.most (omega arith) stops)
+    (ap (λ (n : Name). Some (n, rest)) (named_by name.gate name.number is.client))
+
+last_name : (name : Name) → IsName name → name_at (name_text name) ≡ Some (name, [])
+last_name name is = ap name_at (sym (append-nil (name_text name))) ∙ name_again name [] is refl
+
+four_is : (ip : List ℕ) → length ip ≡ 4 → get_or ip 0 0 ∷ get_or ip 1 0 ∷ get_or ip 2 0 ∷ get_or ip 3 0 ∷ [] ≡ ip
+four_is (a ∷ b ∷ c ∷ d ∷ []) four = refl
+four_is [] four = absurd (omega arith)
+four_is (a ∷ []) four = absurd (omega arith)
+four_is (a ∷ b ∷ []) four = absurd (omega arith)
+four_is (a ∷ b ∷ c ∷ []) four = absurd (omega arith)
+four_is (a ∷ b ∷ c ∷ d ∷ e ∷ ip) four = absurd (omega arith)
+
+octet_again : (address : Address) (k : ℕ) (rest : List ℕ) → IsAddress address → digits_len rest ≡ 0 → number_at 0 255 (decimal (get_or address.ip k 0) ++ rest) ≡ Some (get_or address.ip k 0, rest)
+octet_again address k rest is stops = number_again 0 255 (get_or address.ip k 0) rest (omega arith) (is.small k) (omega arith) stops
+
+address_again : (address : Address) (rest : List ℕ) → IsAddress address → digits_len rest ≡ 0 → address_at (address_text address ++ rest) ≡ Some (address, rest)
+unfolding address_at octet_at end_at
+address_again address rest is stops =
+    let d = codes ":" ++ (decimal address.port ++ rest) in
+    let c = codes "." ++ (decimal (get_or address.ip 3 0) ++ d) in
+    let b = codes "." ++ (decimal (get_or address.ip 2 0) ++ c) in
+    let a = codes "." ++ (decimal (get_or address.ip 1 0) ++ b) in
+    simp append_assoc (rw (octet_again address 0 a is refl)
+    (rw (octet_again address 1 b is refl)
+    (rw (octet_again address 2 c is refl)
+    (rw (octet_again address 3 d is refl)
+    (rw (number_again 0 65535 address.port rest (omega arith) is.port (omega arith) stops)
+    (rw (four_is address.ip is.four) refl))))))
+
+last_address : (address : Address) → IsAddress address → address_at (address_text address) ≡ Some (address, [])
+last_address address is = ap address_at (sym (append-nil (address_text address))) ∙ address_again address [] is refl
+
+accept_again : (peer local : Address) (bytes : List ℕ) → IsAccept peer local bytes → line_of bytes ≡ Some (Step (step.Accept peer local))
+unfolding line_of accept_of
+accept_again peer local bytes line = rw line.spelled (rw (address_again peer (codes " " ++ address_text local) line.is_peer refl) (rw (last_address local line.is_local) refl))
+
+data_again : (link : Name) (text bytes : List ℕ) → IsData link text bytes → line_of bytes ≡ Some (Step (step.Bytes link text))
+unfolding line_of data_of
+data_again link text bytes line = rw line.spelled (rw (name_again link (codes " \"" ++ (line.quoted ++ codes "\"")) line.is_name refl) (rw (quoted_again text line.quoted [] line.is_quoted) refl))
+
+end_again : (link : Name) (bytes : List ℕ) → IsEnd link bytes → line_of bytes ≡ Some (Step (step.End link))
+unfolding line_of end_of
+end_again link bytes line = rw line.spelled (rw (last_name link line.is_name) refl)
+
+take_again : (link : Name) (size count : ℕ) (bytes : List ℕ) → IsTake link size count bytes → line_of bytes ≡ Some (Step (step.Take link size count))
+unfolding line_of take_of
+take_again link size count bytes line =
+    rw line.spelled (rw (name_again link (codes " " ++ (decimal size ++ (codes " " ++ decimal count))) line.is_name refl)
+    (rw (number_again 0 MOST_TAKE size (codes " " ++ decimal count) (omega arith) line.sized (omega arith) refl)
+    (rw (last_number 1 MOST_COUNT count line.some line.counted (omega arith)) refl)))
+
+file_again : (path : List ℕ) (time : ℕ) (text bytes : List ℕ) → IsFile path time text bytes → line_of bytes ≡ Some (File (file.Bytes path time text))
+unfolding line_of file_of
+file_again path time text bytes line =
+    rw line.spelled (rw (quoted_again path line.named (codes " " ++ (decimal time ++ (codes " \"" ++ (line.quoted ++ codes "\"")))) line.is_named)
+    (rw (number_again 0 MOST_TIME time (codes " \"" ++ (line.quoted ++ codes "\"")) (omega arith) line.dated (omega arith) refl)
+    (rw (quoted_again text line.quoted [] line.is_quoted) (rw line.rooted refl))))
+
+fill_again : (path : List ℕ) (time size : ℕ) (bytes : List ℕ) → IsFill path time size bytes → line_of bytes ≡ Some (File (file.Fill path time size))
+unfolding line_of fill_of
+fill_again path time size bytes line =
+    rw line.spelled (rw (quoted_again path line.named (codes " " ++ (decimal time ++ (codes " " ++ decimal size))) line.is_named)
+    (rw (number_again 0 MOST_TIME time (codes " " ++ decimal size) (omega arith) line.dated (omega arith) refl)
+    (rw (last_number 0 MOST_FILL size (omega arith) line.sized (omega arith)) (rw line.rooted refl))))
+
+pub line_again : (line : Line) (bytes : List ℕ) → IsLine line bytes → line_of bytes ≡ Some line
+unfolding line_of
+line_again (Step (step.Accept peer local)) bytes is = accept_again peer local bytes is
+line_again (Step (step.Bytes link text)) bytes is = data_again link text bytes is
+line_again (Step (step.End link)) bytes is = end_again link bytes is
+line_again (Step (step.Take link size count)) bytes is = take_again link size count bytes is
+line_again (File (file.Bytes path time text)) bytes is = file_again path time text bytes is
+line_again (File (file.Fill path time size)) bytes is = fill_again path time size bytes is
+line_again Skip bytes (inl is) = rw is refl
+line_again Skip bytes (inr is) = rw is.1 refl

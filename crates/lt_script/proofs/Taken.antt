@@ -1,0 +1,258 @@
+-- A line that is read is in the grammar.
+use Rattle.std.proofs.Common.{◌≡◌, ℕ, suc, zero, ◌≤◌, Bool, true, false, List, [], ◌∷◌, ◌++◌, get_or, refl, ap, sym, subst, ◌∙◌, arith, append-nil, append_assoc, Option, Some, None, option_and_then, codes, inl, inr, if◌then◌else◌}
+use Rattle.std.specs.Fmt.{decimal}
+use Rattle.std.proofs.lemmas.Option.{same_Some}
+use Rattle.lt_world.specs.declared.Address.{Address}
+use Rattle.lt_script.specs.declared.script.Name.{Name}
+use Rattle.lt_script.specs.declared.script.Step.TheVariants as step
+use Rattle.lt_script.specs.declared.script.ScriptFile.TheVariants as file
+use Rattle.lt_script.specs.declared.script.TheConstants.{MOST_NAME, MOST_TIME, MOST_FILL, MOST_TAKE, MOST_COUNT}
+use Rattle.lt_script.specs.declared.lines.Line.{Line}
+use Rattle.lt_script.specs.declared.lines.Line.TheVariants.{Skip, File, Step}
+use Rattle.lt_script.specs.declared.quoting.State.TheVariants.{Plain}
+use Rattle.lt_script.specs.Quoting.{unquote}
+use Rattle.lt_script.specs.Fields.{number_at, name_at, address_at, octet_at, end_at, after}
+use Rattle.lt_script.specs.Lines.{line_of, ended, is_path, on, accept_of, data_of, end_of, take_of, file_of, fill_of}
+use Rattle.lt_script.specs.Grammar.{name_text, IsName, address_text, IsAddress, IsLine}
+use Rattle.lt_script.proofs.Fronts.{after_takes}
+use Rattle.lt_script.proofs.Numbers.{ReadsNumber, number_takes}
+use Rattle.lt_script.proofs.Quoted.{quoted_takes}
+
+bound : {A B : Type 0} (o : Option A) (f : A → Option B) (y : B) → option_and_then f o ≡ Some y → (x : A) × (o ≡ Some x) × (f x ≡ Some y)
+bound None f y some = absurd (cc some)
+bound (Some x) f y some = (x, refl, some)
+
+ended_takes : (rest : List ℕ) (line said : Line) → ended rest line ≡ Some said → (rest ≡ []) × (line ≡ said)
+ended_takes [] line said some = (refl, cc some)
+ended_takes (b ∷ rest) line said some = absurd (cc some)
+
+path_by : (t : Bool) (o : Option Line) (said : Line) → (if t then o else None) ≡ Some said → (t ≡ true) × (o ≡ Some said)
+path_by true o said some = (refl, some)
+path_by false o said some = absurd (cc some)
+
+-- names
+
+record ReadsName (bytes : List ℕ) (x : Name × List ℕ) : Type 0 where
+  is : IsName x.0
+  spelled : bytes ≡ name_text x.0 ++ x.1
+
+name_takes : (bytes : List ℕ) (x : Name × List ℕ) → name_at bytes ≡ Some x → ReadsName bytes x
+unfolding name_at
+name_takes bytes x some =
+    let r = bound (after (codes "c") bytes) _ x some in
+    let n = bound (number_at 0 MOST_NAME r.0) _ x r.2 in
+    let w = number_takes 0 MOST_NAME r.0 n.0 n.1 in
+    let same : (record { gate = false; number = n.0.0 }, n.0.1) ≡ x = same_Some _ _ n.2 in
+    subst (λ (y : Name × List ℕ). ReadsName bytes y) same
+    (record { is = record { client = refl; most = w.high }; spelled = after_takes (codes "c") bytes r.0 r.1 ∙ ap (λ t. codes "c" ++ t) w.spelled })
+
+-- addresses
+
+regroup : (a b c d e r : List ℕ) → (a ++ (codes "." ++ (b ++ (codes "." ++ (c ++ (codes "." ++ (d ++ (codes ":" ++ e)))))))) ++ r
+    ≡ a ++ (codes "." ++ (b ++ (codes "." ++ (c ++ (codes "." ++ (d ++ (codes ":" ++ (e ++ r))))))))
+regroup a b c d e r = simp append_assoc
+
+record ReadsOctet (bytes : List ℕ) (x : ℕ × List ℕ) : Type 0 where
+  spelled : bytes ≡ decimal x.0 ++ (codes "." ++ x.1)
+  small : x.0 ≤ 255
+
+octet_takes : (bytes : List ℕ) (x : ℕ × List ℕ) → octet_at bytes ≡ Some x → ReadsOctet bytes x
+unfolding octet_at
+octet_takes bytes x some =
+    let a = bound (number_at 0 255 bytes) _ x some in
+    let w = number_takes 0 255 bytes a.0 a.1 in
+    let r = bound (after (codes ".") a.0.1) _ x a.2 in
+    let same : (a.0.0, r.0) ≡ x = same_Some _ _ r.2 in
+    subst (λ (z : ℕ × List ℕ). ReadsOctet bytes z) same
+    (record { spelled = w.spelled ∙ ap (λ r. decimal a.0.0 ++ r) (after_takes (codes ".") a.0.1 r.0 r.1); small = w.high })
+
+record ReadsEnd (bytes : List ℕ) (x : (ℕ × ℕ) × List ℕ) : Type 0 where
+  spelled : bytes ≡ decimal x.0.0 ++ (codes ":" ++ (decimal x.0.1 ++ x.1))
+  small : x.0.0 ≤ 255
+  port : x.0.1 ≤ 65535
+
+end_takes_of : (bytes : List ℕ) (x : (ℕ × ℕ) × List ℕ) → end_at bytes ≡ Some x → ReadsEnd bytes x
+unfolding end_at
+end_takes_of bytes x some =
+    let a = bound (number_at 0 255 bytes) _ x some in
+    let w = number_takes 0 255 bytes a.0 a.1 in
+    let r = bound (after (codes ":") a.0.1) _ x a.2 in
+    let p = bound (number_at 0 65535 r.0) _ x r.2 in
+    let v = number_takes 0 65535 r.0 p.0 p.1 in
+    let same : ((a.0.0, p.0.0), p.0.1) ≡ x = same_Some _ _ p.2 in
+    subst (λ (z : (ℕ × ℕ) × List ℕ). ReadsEnd bytes z) same
+    (record { spelled = w.spelled ∙ ap (λ r. decimal a.0.0 ++ r) (after_takes (codes ":") a.0.1 r.0 r.1 ∙ ap (λ r. codes ":" ++ r) v.spelled); small = w.high; port = v.high })
+
+small_parts : (a b c d : ℕ) → a ≤ 255 → b ≤ 255 → c ≤ 255 → d ≤ 255 → (k : ℕ) → get_or (a ∷ b ∷ c ∷ d ∷ []) k 0 ≤ 255
+small_parts a b c d ha hb hc hd zero = ha
+small_parts a b c d ha hb hc hd (suc zero) = hb
+small_parts a b c d ha hb hc hd (suc (suc zero)) = hc
+small_parts a b c d ha hb hc hd (suc (suc (suc zero))) = hd
+small_parts a b c d ha hb hc hd (suc (suc (suc (suc k)))) = omega arith
+
+record ReadsAddress (bytes : List ℕ) (x : Address × List ℕ) : Type 0 where
+  is : IsAddress x.0
+  spelled : bytes ≡ address_text x.0 ++ x.1
+
+address_made : (bytes ra rb rc rest : List ℕ) (a b c d port : ℕ) → ReadsOctet bytes (a, ra) → ReadsOctet ra (b, rb) → ReadsOctet rb (c, rc) → ReadsEnd rc ((d, port), rest)
+    → ReadsAddress bytes (record { ip = a ∷ b ∷ c ∷ d ∷ []; port = port }, rest)
+address_made bytes ra rb rc rest a b c d port wa wb wc wd = record {
+  is = record { four = refl; small = small_parts a b c d wa.small wb.small wc.small wd.small; port = wd.port };
+  spelled = rw (regroup (decimal a) (decimal b) (decimal c) (decimal d) (decimal port) rest)
+      (wa.spelled ∙ ap (λ r. decimal a ++ (codes "." ++ r)) (wb.spelled ∙ ap (λ r. decimal b ++ (codes "." ++ r)) (wc.spelled ∙ ap (λ r. decimal c ++ (codes "." ++ r)) wd.spelled)));
+}
+
+address_takes : (bytes : List ℕ) (x : Address × List ℕ) → address_at bytes ≡ Some x → ReadsAddress bytes x
+unfolding address_at
+address_takes bytes x some =
+    let a = bound (octet_at bytes) _ x some in
+    let b = bound (octet_at a.0.1) _ x a.2 in
+    let c = bound (octet_at b.0.1) _ x b.2 in
+    let d = bound (end_at c.0.1) _ x c.2 in
+    let same : (record { ip = a.0.0 ∷ b.0.0 ∷ c.0.0 ∷ d.0.0.0 ∷ []; port = d.0.0.1 }, d.0.1) ≡ x = same_Some _ _ d.2 in
+    subst (λ (z : Address × List ℕ). ReadsAddress bytes z) same
+    (address_made bytes a.0.1 b.0.1 c.0.1 d.0.1 a.0.0 b.0.0 c.0.0 d.0.0.0 d.0.0.1 (octet_takes bytes a.0 a.1) (octet_takes a.0.1 b.0 b.1) (octet_takes b.0.1 c.0 c.1) (end_takes_of c.0.1 d.0 d.1))
+
+-- lines
+
+accept_takes : (bytes : List ℕ) (said : Line) → accept_of bytes ≡ Some said → IsLine said (codes "accept " ++ bytes)
+unfolding accept_of
+accept_takes bytes said some =
+    let v0 = bound (address_at bytes) _ said some in
+    let w0 = address_takes bytes v0.0 v0.1 in
+    let v1 = bound (after (codes " ") v0.0.1) _ said v0.2 in
+    let v2 = bound (address_at v1.0) _ said v1.2 in
+    let w2 = address_takes v1.0 v2.0 v2.1 in
+    let e = ended_takes v2.0.1 (Step (step.Accept v0.0.0 v2.0.0)) said v2.2 in
+    subst (λ (l : Line). IsLine l (codes "accept " ++ bytes)) e.1 (record {
+      is_peer = w0.is;
+      is_local = w2.is;
+      spelled = ap (λ r. codes "accept " ++ r) (w0.spelled ∙ ap (λ r. address_text v0.0.0 ++ r) (after_takes (codes " ") v0.0.1 v1.0 v1.1
+          ∙ ap (λ r. codes " " ++ r) (w2.spelled ∙ ap (λ r. address_text v2.0.0 ++ r) e.0 ∙ append-nil (address_text v2.0.0))));
+    })
+
+data_takes : (bytes : List ℕ) (said : Line) → data_of bytes ≡ Some said → IsLine said (codes "data " ++ bytes)
+unfolding data_of
+data_takes bytes said some =
+    let v0 = bound (name_at bytes) _ said some in
+    let w0 = name_takes bytes v0.0 v0.1 in
+    let v1 = bound (after (codes " \"") v0.0.1) _ said v0.2 in
+    let v2 = bound (unquote v1.0 Plain) _ said v1.2 in
+    let w2 = quoted_takes v1.0 v2.0 v2.1 in
+    let e = ended_takes v2.0.1 (Step (step.Bytes v0.0.0 v2.0.0)) said v2.2 in
+    subst (λ (l : Line). IsLine l (codes "data " ++ bytes)) e.1 (record {
+      quoted = w2.0;
+      is_name = w0.is;
+      is_quoted = w2.1;
+      spelled = ap (λ r. codes "data " ++ r) (w0.spelled ∙ ap (λ r. name_text v0.0.0 ++ r) (after_takes (codes " \"") v0.0.1 v1.0 v1.1
+          ∙ ap (λ r. codes " \"" ++ r) (w2.2 ∙ ap (λ r. w2.0 ++ r) (ap (λ r. codes "\"" ++ r) e.0))));
+    })
+
+end_takes : (bytes : List ℕ) (said : Line) → end_of bytes ≡ Some said → IsLine said (codes "end " ++ bytes)
+unfolding end_of
+end_takes bytes said some =
+    let v0 = bound (name_at bytes) _ said some in
+    let w0 = name_takes bytes v0.0 v0.1 in
+    let e = ended_takes v0.0.1 (Step (step.End v0.0.0)) said v0.2 in
+    subst (λ (l : Line). IsLine l (codes "end " ++ bytes)) e.1 (record {
+      is_name = w0.is;
+      spelled = ap (λ r. codes "end " ++ r) (w0.spelled ∙ ap (λ r. name_text v0.0.0 ++ r) e.0 ∙ append-nil (name_text v0.0.0));
+    })
+
+take_takes : (bytes : List ℕ) (said : Line) → take_of bytes ≡ Some said → IsLine said (codes "take " ++ bytes)
+unfolding take_of
+take_takes bytes said some =
+    let v0 = bound (name_at bytes) _ said some in
+    let w0 = name_takes bytes v0.0 v0.1 in
+    let v1 = bound (after (codes " ") v0.0.1) _ said v0.2 in
+    let v2 = bound (number_at 0 MOST_TAKE v1.0) _ said v1.2 in
+    let w2 = number_takes 0 MOST_TAKE v1.0 v2.0 v2.1 in
+    let v3 = bound (after (codes " ") v2.0.1) _ said v2.2 in
+    let v4 = bound (number_at 1 MOST_COUNT v3.0) _ said v3.2 in
+    let w4 = number_takes 1 MOST_COUNT v3.0 v4.0 v4.1 in
+    let e = ended_takes v4.0.1 (Step (step.Take v0.0.0 v2.0.0 v4.0.0)) said v4.2 in
+    subst (λ (l : Line). IsLine l (codes "take " ++ bytes)) e.1 (record {
+      is_name = w0.is;
+      sized = w2.high;
+      some = w4.low;
+      counted = w4.high;
+      spelled = ap (λ r. codes "take " ++ r) (w0.spelled ∙ ap (λ r. name_text v0.0.0 ++ r) (after_takes (codes " ") v0.0.1 v1.0 v1.1
+          ∙ ap (λ r. codes " " ++ r) (w2.spelled ∙ ap (λ r. decimal v2.0.0 ++ r) (after_takes (codes " ") v2.0.1 v3.0 v3.1
+          ∙ ap (λ r. codes " " ++ r) (w4.spelled ∙ ap (λ r. decimal v4.0.0 ++ r) e.0 ∙ append-nil (decimal v4.0.0))))));
+    })
+
+file_takes : (bytes : List ℕ) (said : Line) → file_of bytes ≡ Some said → IsLine said (codes "file \"" ++ bytes)
+unfolding file_of
+file_takes bytes said some =
+    let v0 = bound (unquote bytes Plain) _ said some in
+    let w0 = quoted_takes bytes v0.0 v0.1 in
+    let v1 = bound (after (codes " ") v0.0.1) _ said v0.2 in
+    let v2 = bound (number_at 0 MOST_TIME v1.0) _ said v1.2 in
+    let w2 = number_takes 0 MOST_TIME v1.0 v2.0 v2.1 in
+    let v3 = bound (after (codes " \"") v2.0.1) _ said v2.2 in
+    let v4 = bound (unquote v3.0 Plain) _ said v3.2 in
+    let w4 = quoted_takes v3.0 v4.0 v4.1 in
+    let path = path_by (is_path v0.0.0) (ended v4.0.1 (File (file.Bytes v0.0.0 v2.0.0 v4.0.0))) said v4.2 in
+    let e = ended_takes v4.0.1 (File (file.Bytes v0.0.0 v2.0.0 v4.0.0)) said path.1 in
+    subst (λ (l : Line). IsLine l (codes "file \"" ++ bytes)) e.1 (record {
+      named = w0.0;
+      quoted = w4.0;
+      rooted = path.0;
+      is_named = w0.1;
+      dated = w2.high;
+      is_quoted = w4.1;
+      spelled = ap (λ r. codes "file \"" ++ r) (w0.2 ∙ ap (λ r. w0.0 ++ r) (ap (λ r. 34 ∷ r) (after_takes (codes " ") v0.0.1 v1.0 v1.1)
+          ∙ ap (λ r. codes "\" " ++ r) (w2.spelled ∙ ap (λ r. decimal v2.0.0 ++ r) (after_takes (codes " \"") v2.0.1 v3.0 v3.1
+          ∙ ap (λ r. codes " \"" ++ r) (w4.2 ∙ ap (λ r. w4.0 ++ r) (ap (λ r. codes "\"" ++ r) e.0))))));
+    })
+
+fill_takes : (bytes : List ℕ) (said : Line) → fill_of bytes ≡ Some said → IsLine said (codes "fill \"" ++ bytes)
+unfolding fill_of
+fill_takes bytes said some =
+    let v0 = bound (unquote bytes Plain) _ said some in
+    let w0 = quoted_takes bytes v0.0 v0.1 in
+    let v1 = bound (after (codes " ") v0.0.1) _ said v0.2 in
+    let v2 = bound (number_at 0 MOST_TIME v1.0) _ said v1.2 in
+    let w2 = number_takes 0 MOST_TIME v1.0 v2.0 v2.1 in
+    let v3 = bound (after (codes " ") v2.0.1) _ said v2.2 in
+    let v4 = bound (number_at 0 MOST_FILL v3.0) _ said v3.2 in
+    let w4 = number_takes 0 MOST_FILL v3.0 v4.0 v4.1 in
+    let path = path_by (is_path v0.0.0) (ended v4.0.1 (File (file.Fill v0.0.0 v2.0.0 v4.0.0))) said v4.2 in
+    let e = ended_takes v4.0.1 (File (file.Fill v0.0.0 v2.0.0 v4.0.0)) said path.1 in
+    subst (λ (l : Line). IsLine l (codes "fill \"" ++ bytes)) e.1 (record {
+      named = w0.0;
+      rooted = path.0;
+      is_named = w0.1;
+      dated = w2.high;
+      sized = w4.high;
+      spelled = ap (λ r. codes "fill \"" ++ r) (w0.2 ∙ ap (λ r. w0.0 ++ r) (ap (λ r. 34 ∷ r) (after_takes (codes " ") v0.0.1 v1.0 v1.1)
+          ∙ ap (λ r. codes "\" " ++ r) (w2.spelled ∙ ap (λ r. decimal v2.0.0 ++ r) (after_takes (codes " ") v2.0.1 v3.0 v3.1
+          ∙ ap (λ r. codes " " ++ r) (w4.spelled ∙ ap (λ r. decimal v4.0.0 ++ r) e.0 ∙ append-nil (decimal v4.0.0))))));
+    })
+
+comment_takes : (bytes : List ℕ) (said : Line) → Some Skip ≡ Some said → IsLine said (codes "#" ++ bytes)
+comment_takes bytes said some =
+    let e : Skip ≡ said = cc some in
+    subst (λ (l : Line). IsLine l (codes "#" ++ bytes)) e (inr (bytes, refl))
+
+empty_takes : (bytes : List ℕ) (said : Line) → ended bytes Skip ≡ Some said → IsLine said bytes
+empty_takes bytes said some =
+    let e = ended_takes bytes Skip said some in
+    subst (λ (l : Line). IsLine l bytes) e.1 (inl e.0)
+
+-- a line that has this front, or goes on to the next
+on_takes : (o : Option (List ℕ)) (f : List ℕ → Option Line) (other : Option Line) (front line : List ℕ) (said : Line) → after front line ≡ o → on o f other ≡ Some said
+    → ((rest : List ℕ) → f rest ≡ Some said → IsLine said (front ++ rest)) → (other ≡ Some said → IsLine said line) → IsLine said line
+on_takes None f other front line said has some here there = there some
+on_takes (Some rest) f other front line said has some here there = subst (λ (l : List ℕ). IsLine said l) (sym (after_takes front line rest has)) (here rest some)
+
+pub line_takes : (line : List ℕ) (said : Line) → line_of line ≡ Some said → IsLine said line
+unfolding line_of
+line_takes line said some =
+    on_takes (after (codes "#") line) _ _ (codes "#") line said refl some (λ r h. comment_takes r said h) (λ some.
+    on_takes (after (codes "accept ") line) _ _ (codes "accept ") line said refl some (λ r h. accept_takes r said h) (λ some.
+    on_takes (after (codes "data ") line) _ _ (codes "data ") line said refl some (λ r h. data_takes r said h) (λ some.
+    on_takes (after (codes "end ") line) _ _ (codes "end ") line said refl some (λ r h. end_takes r said h) (λ some.
+    on_takes (after (codes "take ") line) _ _ (codes "take ") line said refl some (λ r h. take_takes r said h) (λ some.
+    on_takes (after (codes "file \"") line) _ _ (codes "file \"") line said refl some (λ r h. file_takes r said h) (λ some.
+    on_takes (after (codes "fill \"") line) _ _ (codes "fill \"") line said refl some (λ r h. fill_takes r said h) (λ some. empty_takes line said some)))))))

@@ -1,0 +1,96 @@
+-- The grammar of a script's lines: for each thing that a line can say, the bytes that say it.
+use Rattle.std.specs.Prelude.{◌≡◌, ◌≢◌, ℕ, ◌+◌, ◌*◌, ◌<◌, ◌≤◌, true, false, List, [], ◌∷◌, ◌++◌, length, get_or, ◌⊎◌, codes}
+use Rattle.std.specs.Char.{digit_char}
+use Rattle.std.specs.Fmt.{decimal}
+use Rattle.lt_world.specs.declared.Address.{Address}
+use Rattle.lt_script.specs.declared.script.Name.{Name}
+use Rattle.lt_script.specs.declared.script.Step.TheVariants as step
+use Rattle.lt_script.specs.declared.script.ScriptFile.TheVariants as file
+use Rattle.lt_script.specs.declared.script.TheConstants.{MOST_NAME, MOST_TIME, MOST_FILL, MOST_TAKE, MOST_COUNT}
+use Rattle.lt_script.specs.declared.lines.Line.{Line}
+use Rattle.lt_script.specs.declared.lines.Line.TheVariants.{Skip, File, Step}
+use Rattle.lt_script.specs.Lines.{is_path}
+
+-- one byte of a quoted text, and how it may be written
+pub data IsPiece : ℕ → List ℕ → Type 0 where
+  Plainly : (b : ℕ) → 32 ≤ b → b ≤ 126 → b ≢ 34 → b ≢ 92 → IsPiece b (b ∷ [])
+  Return : IsPiece 13 (codes "\\r")
+  Feed : IsPiece 10 (codes "\\n")
+  Quote : IsPiece 34 (codes "\\\"")
+  Backslash : IsPiece 92 (codes "\\\\")
+  Hex : (high low : ℕ) → high < 16 → low < 16 → IsPiece (high * 16 + low) (92 ∷ 120 ∷ digit_char high ∷ digit_char low ∷ [])
+
+-- a text, and how it may be written between quotes
+pub data IsQuoted : List ℕ → List ℕ → Type 0 where
+  Empty : IsQuoted [] []
+  More : (b : ℕ) (piece text bytes : List ℕ) → IsPiece b piece → IsQuoted text bytes → IsQuoted (b ∷ text) (piece ++ bytes)
+
+-- a client's name, `cK`
+abbrev pub name_text : Name → List ℕ
+name_text name = codes "c" ++ decimal name.number
+
+pub record IsName (name : Name) : Type 0 where
+  pub client : name.gate ≡ false
+  pub most : name.number ≤ MOST_NAME
+
+-- an address, `IP:PORT`
+abbrev pub address_text : Address → List ℕ
+address_text address = decimal (get_or address.ip 0 0) ++ (codes "." ++ (decimal (get_or address.ip 1 0) ++ (codes "." ++ (decimal (get_or address.ip 2 0) ++ (codes "." ++ (decimal (get_or address.ip 3 0) ++ (codes ":" ++ decimal address.port)))))))
+
+pub record IsAddress (address : Address) : Type 0 where
+  pub four : length address.ip ≡ 4
+  pub small : (k : ℕ) → get_or address.ip k 0 ≤ 255
+  pub port : address.port ≤ 65535
+
+pub record IsAccept (peer local : Address) (bytes : List ℕ) : Type 0 where
+  pub is_peer : IsAddress peer
+  pub is_local : IsAddress local
+  pub spelled : bytes ≡ codes "accept " ++ (address_text peer ++ (codes " " ++ address_text local))
+
+pub record IsData (link : Name) (text bytes : List ℕ) : Type 0 where
+  pub quoted : List ℕ
+  pub is_name : IsName link
+  pub is_quoted : IsQuoted text quoted
+  pub spelled : bytes ≡ codes "data " ++ (name_text link ++ (codes " \"" ++ (quoted ++ codes "\"")))
+
+pub record IsEnd (link : Name) (bytes : List ℕ) : Type 0 where
+  pub is_name : IsName link
+  pub spelled : bytes ≡ codes "end " ++ name_text link
+
+pub record IsTake (link : Name) (size count : ℕ) (bytes : List ℕ) : Type 0 where
+  pub is_name : IsName link
+  pub sized : size ≤ MOST_TAKE
+  pub some : 1 ≤ count
+  pub counted : count ≤ MOST_COUNT
+  pub spelled : bytes ≡ codes "take " ++ (name_text link ++ (codes " " ++ (decimal size ++ (codes " " ++ decimal count))))
+
+pub record IsFile (path : List ℕ) (time : ℕ) (text bytes : List ℕ) : Type 0 where
+  pub named : List ℕ
+  pub quoted : List ℕ
+  pub rooted : is_path path ≡ true
+  pub is_named : IsQuoted path named
+  pub dated : time ≤ MOST_TIME
+  pub is_quoted : IsQuoted text quoted
+  pub spelled : bytes ≡ codes "file \"" ++ (named ++ (codes "\" " ++ (decimal time ++ (codes " \"" ++ (quoted ++ codes "\"")))))
+
+pub record IsFill (path : List ℕ) (time size : ℕ) (bytes : List ℕ) : Type 0 where
+  pub named : List ℕ
+  pub rooted : is_path path ≡ true
+  pub is_named : IsQuoted path named
+  pub dated : time ≤ MOST_TIME
+  pub sized : size ≤ MOST_FILL
+  pub spelled : bytes ≡ codes "fill \"" ++ (named ++ (codes "\" " ++ (decimal time ++ (codes " " ++ decimal size))))
+
+-- a comment, or nothing
+abbrev pub IsSkipped : List ℕ → Type 0
+IsSkipped bytes = (bytes ≡ []) ⊎ ((rest : List ℕ) × (bytes ≡ codes "#" ++ rest))
+
+-- the bytes of a line say this
+abbrev pub IsLine : Line → List ℕ → Type 0
+IsLine (Step (step.Accept peer local)) bytes = IsAccept peer local bytes
+IsLine (Step (step.Bytes link text)) bytes = IsData link text bytes
+IsLine (Step (step.End link)) bytes = IsEnd link bytes
+IsLine (Step (step.Take link size count)) bytes = IsTake link size count bytes
+IsLine (File (file.Bytes path time text)) bytes = IsFile path time text bytes
+IsLine (File (file.Fill path time size)) bytes = IsFill path time size bytes
+IsLine Skip bytes = IsSkipped bytes

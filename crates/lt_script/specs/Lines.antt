@@ -1,0 +1,85 @@
+-- How the lines of a script are read.
+use Rattle.std.specs.Prelude.{ℕ, ◌-◌, Bool, ◌&&◌, not, List, [], ◌∷◌, length, get_or, Option, Some, None, if◌then◌else◌, ◌==◌, codes}
+use Rattle.lt_script.specs.declared.script.Step.TheVariants as step
+use Rattle.lt_script.specs.declared.script.ScriptFile.TheVariants as file
+use Rattle.lt_script.specs.declared.script.TheConstants.{MOST_TIME, MOST_FILL, MOST_TAKE, MOST_COUNT}
+use Rattle.lt_script.specs.declared.lines.Line.{Line}
+use Rattle.lt_script.specs.declared.lines.Line.TheVariants.{Skip, File, Step}
+use Rattle.lt_script.specs.declared.quoting.State.TheVariants.{Plain}
+use Rattle.lt_script.specs.Gives.{◌>>=◌}
+use Rattle.lt_script.specs.Fields.{after, number_at, name_at, address_at}
+use Rattle.lt_script.specs.Quoting.{unquote}
+
+-- nothing follows
+abbrev pub ended : List ℕ → Line → Option Line
+ended [] line = Some line
+ended (b ∷ bytes) line = None
+
+-- a path begins with a slash and doesn't end with one
+abbrev pub is_path : List ℕ → Bool
+is_path text = (get_or text 0 0 == 47) && not (get_or text (length text - 1) 0 == 47)
+
+abbrev pub if_path : List ℕ → Option Line → Option Line
+if_path text line = if is_path text then line else None
+
+unfoldable pub accept_of : List ℕ → Option Line
+accept_of bytes = do
+  peer ← address_at bytes
+  gap ← after (codes " ") peer.1
+  local ← address_at gap
+  ended local.1 (Step (step.Accept peer.0 local.0))
+
+unfoldable pub data_of : List ℕ → Option Line
+data_of bytes = do
+  link ← name_at bytes
+  quote ← after (codes " \"") link.1
+  text ← unquote quote Plain
+  ended text.1 (Step (step.Bytes link.0 text.0))
+
+unfoldable pub end_of : List ℕ → Option Line
+end_of bytes = do
+  link ← name_at bytes
+  ended link.1 (Step (step.End link.0))
+
+unfoldable pub take_of : List ℕ → Option Line
+take_of bytes = do
+  link ← name_at bytes
+  gap ← after (codes " ") link.1
+  size ← number_at 0 MOST_TAKE gap
+  gap ← after (codes " ") size.1
+  count ← number_at 1 MOST_COUNT gap
+  ended count.1 (Step (step.Take link.0 size.0 count.0))
+
+unfoldable pub file_of : List ℕ → Option Line
+file_of bytes = do
+  path ← unquote bytes Plain
+  gap ← after (codes " ") path.1
+  time ← number_at 0 MOST_TIME gap
+  quote ← after (codes " \"") time.1
+  text ← unquote quote Plain
+  if_path path.0 (ended text.1 (File (file.Bytes path.0 time.0 text.0)))
+
+unfoldable pub fill_of : List ℕ → Option Line
+fill_of bytes = do
+  path ← unquote bytes Plain
+  gap ← after (codes " ") path.1
+  time ← number_at 0 MOST_TIME gap
+  gap ← after (codes " ") time.1
+  size ← number_at 0 MOST_FILL gap
+  if_path path.0 (ended size.1 (File (file.Fill path.0 time.0 size.0)))
+
+-- the first of these fronts that a line has decides what it is
+abbrev pub on : Option (List ℕ) → (List ℕ → Option Line) → Option Line → Option Line
+on None f other = other
+on (Some rest) f other = f rest
+
+unfoldable pub line_of : List ℕ → Option Line
+line_of line =
+    on (after (codes "#") line) (λ rest. Some Skip)
+    (on (after (codes "accept ") line) accept_of
+    (on (after (codes "data ") line) data_of
+    (on (after (codes "end ") line) end_of
+    (on (after (codes "take ") line) take_of
+    (on (after (codes "file \"") line) file_of
+    (on (after (codes "fill \"") line) fill_of
+    (ended line Skip)))))))

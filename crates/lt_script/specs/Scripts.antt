@@ -1,0 +1,74 @@
+-- How the text of a script is read.
+use Rattle.std.specs.Prelude.{◌≡◌, ℕ, ◌+◌, ◌<◌, ◌≤◌, Bool, true, false, List, [], ◌∷◌, ◌++◌, length, Option, Some, None, option_map, Result, Ok, Err, if◌then◌else◌, ◌==◌, codes}
+use Rattle.lt_script.specs.declared.script.Script.{Script}
+use Rattle.lt_script.specs.declared.script.ScriptError.{ScriptError}
+use Rattle.lt_script.specs.declared.script.ScriptError.TheVariants as error
+use Rattle.lt_script.specs.declared.script.TheConstants.{MOST_BYTES}
+use Rattle.lt_script.specs.declared.lines.Line.{Line}
+use Rattle.lt_script.specs.declared.lines.Line.TheVariants.{Skip, File, Step}
+use Rattle.lt_script.specs.Fields.{after}
+use Rattle.lt_script.specs.Lines.{line_of}
+use Rattle.lt_script.specs.Texts.{lines_of, first}
+
+-- the bytes before the first line feed, and those after it
+abbrev pub cut : List ℕ → Option (List ℕ × List ℕ)
+cut [] = None
+cut (b ∷ bytes) = if b == 10 then Some ([], bytes) else option_map (λ x. (b ∷ x.0, x.1)) (cut bytes)
+
+abbrev pub with_first : Line → Result Script ℕ → Result Script ℕ
+with_first line (Ok script) = Ok (first line script)
+with_first line (Err number) = Err number
+
+abbrev pub with_line : Option Line → ℕ → Result Script ℕ → Result Script ℕ
+with_line None number rest = Err number
+with_line (Some line) number rest = with_first line rest
+
+-- what lines from this number on say, or the first of them that says nothing
+abbrev pub script_from : ℕ → List (List ℕ) → List ℕ → Result Script ℕ
+script_from number [] [] = Ok (record { files = []; steps = [] })
+script_from number [] (b ∷ last) = Err number
+script_from number (line ∷ lines) last = with_line (line_of line) number (script_from (number + 1) lines last)
+
+abbrev pub is_nothing : Option (List ℕ) → Bool
+is_nothing None = false
+is_nothing (Some []) = true
+is_nothing (Some (b ∷ bytes)) = false
+
+abbrev pub is_head : List ℕ → Bool
+is_head line = is_nothing (after (codes "lighttpd-script 1") line)
+
+abbrev pub script_in : List (List ℕ) → List ℕ → Result Script ℕ
+script_in [] last = Err 1
+script_in (line ∷ lines) last = if is_head line then script_from 2 lines last else Err 1
+
+unfoldable pub script_of : List ℕ → Result Script ℕ
+script_of bytes = script_in (lines_of bytes).0 (lines_of bytes).1
+
+abbrev pub RefusesScript : ScriptError → List ℕ → Type 0
+RefusesScript error.NoMemory bytes = length bytes ≤ MOST_BYTES
+RefusesScript error.TooLong bytes = MOST_BYTES < length bytes
+RefusesScript (error.Line number) bytes = (length bytes ≤ MOST_BYTES) × (script_of bytes ≡ Err number)
+
+abbrev pub GivesScript : Result Script ScriptError → List ℕ → Type 0
+GivesScript (Ok script) bytes = (length bytes ≤ MOST_BYTES) × (script_of bytes ≡ Ok script)
+GivesScript (Err e) bytes = RefusesScript e bytes
+
+-- what a part that was read and the rest give
+abbrev pub joined : Script → Result Script ℕ → Result Script ℕ
+joined front (Ok script) = Ok (record { files = front.files ++ script.files; steps = front.steps ++ script.steps })
+joined front (Err number) = Err number
+
+abbrev pub added : Script → Line → Script
+added front Skip = front
+added front (File file) = record front { files = front.files ++ file ∷ [] }
+added front (Step step) = record front { steps = front.steps ++ step ∷ [] }
+
+abbrev pub RefusesRest : ScriptError → List ℕ → Type 0
+RefusesRest error.NoMemory bytes = Unit {0}
+RefusesRest error.TooLong bytes = ⊥
+RefusesRest (error.Line number) bytes = script_from 2 (lines_of bytes).0 (lines_of bytes).1 ≡ Err number
+
+-- what the lines after the first give
+abbrev pub GivesRest : Result Script ScriptError → List ℕ → Type 0
+GivesRest (Ok script) bytes = script_from 2 (lines_of bytes).0 (lines_of bytes).1 ≡ Ok script
+GivesRest (Err e) bytes = RefusesRest e bytes

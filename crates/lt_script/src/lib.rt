@@ -1,0 +1,13 @@
+//! A script is a recorded run: the files that are there, and what clients send and when they can be
+//! written to. `parse_script` reads its text, `ScriptNet` plays it as a net, and `report` says what
+//! each link took.
+#![tactic(auto)]
+
+mod fields;
+mod lines;
+mod parse;
+mod quoting;
+mod script;
+
+pub use parse::parse_script;
+pub use script::{Name, Script, ScriptError, ScriptFile, Step};

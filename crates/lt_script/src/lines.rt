@@ -1,0 +1,159 @@
+//! The lines of a script.
+ghost use Rattle.std.specs.Prelude.{◌≡◌};
+ghost use Rattle.lt_script.specs.Gives.{Gives};
+ghost use Rattle.lt_script.specs.Lines.{ended, is_path, accept_of, data_of, end_of, take_of, file_of, fill_of, line_of};
+
+use crate::fields::{LineError, address_at, after, name_at, number_at};
+use crate::quoting::text_at;
+use crate::script::{MOST_COUNT, MOST_FILL, MOST_TAKE, MOST_TIME, ScriptFile, Step};
+use std::alloc::Global;
+
+/// What a line says.
+#[derive(Debug, Drop)]
+pub enum Line {
+    /// Nothing: a comment, or an empty line.
+    Skip,
+    File(ScriptFile),
+    Step(Step),
+}
+
+/// What a line says, if it is one of the grammar. A front decides what kind of line it is.
+#[tactic(auto, unfolding(crate::specs::Lines::line_of))]
+pub fn line_of(alloc: Global, line: &[u8]) -> Result<Line, LineError>
+    ensures { Gives (λ x. x) result (line_of line.now) }
+{
+    if let Some(_) = after(b"#", line) {
+        return Ok(Line::Skip);
+    }
+    if let Some(rest) = after(b"accept ", line) {
+        return accept_of(rest).ok_or(LineError::Bad);
+    }
+    if let Some(rest) = after(b"data ", line) {
+        return data_of(alloc, rest);
+    }
+    if let Some(rest) = after(b"end ", line) {
+        return end_of(rest).ok_or(LineError::Bad);
+    }
+    if let Some(rest) = after(b"take ", line) {
+        return take_of(rest).ok_or(LineError::Bad);
+    }
+    if let Some(rest) = after(b"file \"", line) {
+        return file_of(alloc, rest);
+    }
+    if let Some(rest) = after(b"fill \"", line) {
+        return fill_of(alloc, rest);
+    }
+    ended(line, Line::Skip).ok_or(LineError::Bad)
+}
+
+// This line, if nothing follows.
+fn ended(rest: &[u8], line: Line) -> Option<Line>
+    ensures { result ≡ ended rest.now line }
+{
+    if rest.len() > 0 {
+        return None;
+    }
+    Some(line)
+}
+
+fn is_path(text: &[u8]) -> bool
+    ensures { result ≡ is_path text.now }
+{
+    if text.len() == 0 {
+        return false;
+    }
+    text[0] == b'/' && text[text.len() - 1] != b'/'
+}
+
+#[tactic(auto, unfolding(crate::specs::Lines::accept_of))]
+fn accept_of(bytes: &[u8]) -> Option<Line>
+    ensures { result ≡ accept_of bytes.now }
+{
+    let (peer, rest) = address_at(bytes)?;
+    let rest = after(b" ", rest)?;
+    let (local, rest) = address_at(rest)?;
+    ended(rest, Line::Step(Step::Accept { peer, local }))
+}
+
+#[tactic(auto, unfolding(crate::specs::Lines::data_of))]
+fn data_of(alloc: Global, bytes: &[u8]) -> Result<Line, LineError>
+    ensures { Gives (λ x. x) result (data_of bytes.now) }
+{
+    let Some((link, rest)) = name_at(bytes) else {
+        return Err(LineError::Bad);
+    };
+    let Some(rest) = after(b" \"", rest) else {
+        return Err(LineError::Bad);
+    };
+    let (bytes, rest) = text_at(alloc, rest)?;
+    ended(rest, Line::Step(Step::Bytes { link, bytes })).ok_or(LineError::Bad)
+}
+
+#[tactic(auto, unfolding(crate::specs::Lines::end_of))]
+fn end_of(bytes: &[u8]) -> Option<Line>
+    ensures { result ≡ end_of bytes.now }
+{
+    let (link, rest) = name_at(bytes)?;
+    ended(rest, Line::Step(Step::End { link }))
+}
+
+#[tactic(auto, unfolding(crate::specs::Lines::take_of))]
+fn take_of(bytes: &[u8]) -> Option<Line>
+    ensures { result ≡ take_of bytes.now }
+{
+    let (link, rest) = name_at(bytes)?;
+    let rest = after(b" ", rest)?;
+    let (size, rest) = number_at(0, MOST_TAKE, rest)?;
+    let rest = after(b" ", rest)?;
+    let (count, rest) = number_at(1, MOST_COUNT, rest)?;
+    let step = Step::Take {
+        link,
+        size: size as u32,
+        count: count as u32,
+    };
+    ended(rest, Line::Step(step))
+}
+
+#[tactic(auto, unfolding(crate::specs::Lines::file_of))]
+fn file_of(alloc: Global, bytes: &[u8]) -> Result<Line, LineError>
+    ensures { Gives (λ x. x) result (file_of bytes.now) }
+{
+    let (path, rest) = text_at(alloc, bytes)?;
+    let Some(rest) = after(b" ", rest) else {
+        return Err(LineError::Bad);
+    };
+    let Some((time, rest)) = number_at(0, MOST_TIME, rest) else {
+        return Err(LineError::Bad);
+    };
+    let Some(rest) = after(b" \"", rest) else {
+        return Err(LineError::Bad);
+    };
+    let (bytes, rest) = text_at(alloc, rest)?;
+    if !is_path(path.bytes()) {
+        return Err(LineError::Bad);
+    }
+    ended(rest, Line::File(ScriptFile::Bytes { path, time, bytes })).ok_or(LineError::Bad)
+}
+
+#[tactic(auto, unfolding(crate::specs::Lines::fill_of))]
+fn fill_of(alloc: Global, bytes: &[u8]) -> Result<Line, LineError>
+    ensures { Gives (λ x. x) result (fill_of bytes.now) }
+{
+    let (path, rest) = text_at(alloc, bytes)?;
+    let Some(rest) = after(b" ", rest) else {
+        return Err(LineError::Bad);
+    };
+    let Some((time, rest)) = number_at(0, MOST_TIME, rest) else {
+        return Err(LineError::Bad);
+    };
+    let Some(rest) = after(b" ", rest) else {
+        return Err(LineError::Bad);
+    };
+    let Some((size, rest)) = number_at(0, MOST_FILL, rest) else {
+        return Err(LineError::Bad);
+    };
+    if !is_path(path.bytes()) {
+        return Err(LineError::Bad);
+    }
+    ended(rest, Line::File(ScriptFile::Fill { path, time, size })).ok_or(LineError::Bad)
+}

@@ -1,0 +1,73 @@
+//! A script: the files of a run, and the events that a net hands out, in their order.
+use lt_bytes::{List, Text};
+use lt_world::Address;
+use thiserror::Error;
+
+/// The longest script that is read, in bytes.
+pub const MOST_BYTES: usize = 16_777_216;
+
+/// The greatest number in a link's name.
+pub const MOST_NAME: u64 = 1_000_000;
+
+/// The greatest time of a file, in seconds since 1970: the end of the year 9999.
+pub const MOST_TIME: u64 = 253_402_300_799;
+
+/// The longest file that a `fill` line makes, in bytes.
+pub const MOST_FILL: u64 = 16_777_216;
+
+/// The most bytes that one `take` lets a write take.
+pub const MOST_TAKE: u64 = 65_536;
+
+/// The most events of one line.
+pub const MOST_COUNT: u64 = 4_096;
+
+/// What the lines of a script say: its files, and its steps, each kind in the order of the lines.
+#[derive(Debug, Drop)]
+pub struct Script {
+    pub files: List<ScriptFile>,
+    pub steps: List<Step>,
+}
+
+/// A file that is there during the whole run.
+#[derive(Debug, Drop)]
+pub enum ScriptFile {
+    /// `file "PATH" TIME "BYTES"`.
+    Bytes { path: Text, time: u64, bytes: Text },
+    /// `fill "PATH" TIME SIZE`: the letters `a` to `z` again and again.
+    Fill { path: Text, time: u64, size: u64 },
+}
+
+/// A link as a script names it: `c0` is the first client that arrives, `c1` the second.
+#[derive(Clone, Copy, Debug)]
+pub struct Name {
+    /// A link to a gateway; no line names one yet.
+    pub gate: bool,
+    /// Counted from 0 over the links of its kind.
+    pub number: u32,
+}
+
+/// A line that plays events.
+#[derive(Debug, Drop)]
+pub enum Step {
+    /// `accept IP:PORT IP:PORT`: a client arrives from the first address on the second.
+    Accept { peer: Address, local: Address },
+    /// `data LINK "BYTES"`: the link can read these bytes too.
+    Bytes { link: Name, bytes: Text },
+    /// `end LINK`: after what can be read the link has ended.
+    End { link: Name },
+    /// `take LINK SIZE COUNT`: the link is writable this often, and a write takes at most `size` bytes.
+    Take { link: Name, size: u32, count: u32 },
+}
+
+/// Why a text gives no script.
+#[derive(Debug, Drop, Error)]
+pub enum ScriptError {
+    /// The first line that is outside the grammar, counted from 1.
+    #[error("script line {number}")]
+    Line { number: u32 },
+    /// The text is longer than `MOST_BYTES`.
+    #[error("the script is too long")]
+    TooLong,
+    #[error("out of memory")]
+    NoMemory,
+}
