@@ -5,3 +5,6 @@ pub mod Again
 pub mod Taken
 pub mod Lining
 pub mod WholeTexts
+pub mod Noting
+pub mod Telling
+pub mod Becoming

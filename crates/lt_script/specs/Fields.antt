@@ -5,7 +5,7 @@ use Rattle.std.specs.List.{prefix_len}
 use Rattle.lt_bytes.specs.declared.numbers.Number.{Number}
 use Rattle.lt_bytes.specs.declared.numbers.Number.TheVariants.{Value}
 use Rattle.lt_bytes.specs.Numbers.{number_of}
-use Rattle.lt_world.specs.declared.Address.{Address}
+use Rattle.lt_world.specs.declared.net.Address.{Address}
 use Rattle.lt_script.specs.declared.script.Name.{Name}
 use Rattle.lt_script.specs.declared.script.TheConstants.{MOST_NAME}
 use Rattle.lt_script.specs.Gives.{◌>>=◌}

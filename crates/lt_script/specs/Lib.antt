@@ -5,3 +5,14 @@ pub mod Lines
 pub mod Scripts
 pub mod Grammar
 pub mod Texts
+pub mod Sides
+pub mod Views
+pub mod Steps
+pub mod Calls
+pub mod Plays
+pub mod Playing
+pub mod Told
+pub mod Kept
+pub mod Ports
+pub mod Noted
+pub mod Notes

@@ -4,10 +4,15 @@
 #![tactic(auto)]
 
 mod fields;
+mod links;
 mod lines;
+mod notes;
 mod parse;
+mod port;
+mod ports;
 mod quoting;
 mod script;
+mod steps;
 
 pub use parse::parse_script;
 pub use script::{Name, Script, ScriptError, ScriptFile, Step};

@@ -1,0 +1,17 @@
+-- What is kept for one link.
+use Rattle.std.specs.Prelude.{ℕ, ◌-◌, ◌≤◌, List, [], length, get_or, Option, None, is_none, vec_len, vec_capacity}
+use Rattle.lt_world.specs.declared.net.Ending.{Ending}
+use Rattle.lt_script.specs.declared.port.Port.TheInside.{Inside}
+use Rattle.lt_script.specs.Sides.{Side, no_side}
+use Rattle.lt_script.specs.Kept.{Kept}
+
+abbrev pub kept_of : Inside → Kept
+kept_of a = record {
+  side = record { is_open = is_none a.ending; given = a.given.items; seen = a.seen; ended = a.ended };
+  taken = a.taken.items;
+  ending = a.ending;
+  room = vec_capacity a.taken - vec_len a.taken;
+}
+
+abbrev pub IsPort : Inside → Type 0
+IsPort a = a.seen ≤ length a.given.items

@@ -1,0 +1,49 @@
+-- One link as a script plays it.
+use Rattle.std.specs.Prelude.{ℕ, ◌+◌, ◌-◌, min, Bool, true, false, List, [], ◌∷◌, ◌++◌, length, take, drop, get_or, if◌then◌else◌}
+use Rattle.lt_world.specs.Trace.{Act, Read, ReadEnd, NotYet, Reading}
+
+pub record Side : Type 0 where
+  pub is_open : Bool
+  -- the bytes that the script gave to it so far
+  pub given : List ℕ
+  -- how many of them were read
+  pub seen : ℕ
+  -- nothing comes after them
+  pub ended : Bool
+
+-- a link that arrives
+abbrev pub fresh_side : Side
+fresh_side = record { is_open = true; given = []; seen = 0; ended = false }
+
+-- a link that never arrived
+abbrev pub no_side : Side
+no_side = record { is_open = false; given = []; seen = 0; ended = false }
+
+abbrev pub side_at : ℕ → List Side → Side
+side_at link sides = get_or sides link no_side
+
+-- what can still be read
+abbrev pub unread : Side → List ℕ
+unread side = drop side.seen side.given
+
+abbrev pub some_read : List ℕ → Bool → Act
+some_read [] ended = if ended then ReadEnd else NotYet Reading
+some_read (byte ∷ bytes) ended = Read (byte ∷ bytes)
+
+-- the answer of a read: what can be read, up to the buffer, else the end, else nothing yet
+abbrev pub gives : ℕ → Side → Act
+gives size side = some_read (take size (unread side)) side.ended
+
+-- after a read
+abbrev pub with_read : ℕ → Side → Side
+with_read size side = record side { seen = side.seen + min size (length side.given - side.seen) }
+
+-- after more bytes were given
+abbrev pub with_bytes : List ℕ → Side → Side
+with_bytes bytes side = record side { given = side.given ++ bytes }
+
+abbrev pub with_end : Side → Side
+with_end side = record side { ended = true }
+
+abbrev pub with_close : Side → Side
+with_close side = record side { is_open = false }
