@@ -1,9 +1,12 @@
 -- What follows a front.
 use denote.Bor.{Bor}
-use Rattle.std.proofs.Common.{◌≡◌, ℕ, ◌+◌, ◌&&◌, Bool, true, false, List, [], ◌∷◌, ◌++◌, ◌∙◌, length, drop, take, refl, ap, sym, arith, MatchOption, Option, Some, None, ◌==◌, if◌then◌else◌, bytes_eq}
+use Rattle.std.proofs.Common.{◌≡◌, ℕ, suc, ◌-◌, ◌<◌, not, get_or, ◌+◌, ◌&&◌, Bool, true, false, List, [], ◌∷◌, ◌++◌, ◌∙◌, length, drop, take, refl, ap, sym, arith, MatchOption, Option, Some, None, ◌==◌, if◌then◌else◌, bytes_eq}
 use Rattle.std.proofs.lemmas.Bool.Decides.{nat_tests}
 use Rattle.std.specs.Option.{option_copied}
+use Rattle.lt_world.specs.Disk.{ends_in_slash}
+use Rattle.lt_world.specs.Memory.{IsPath}
 use Rattle.lt_script.specs.Fields.{after}
+use Rattle.lt_script.specs.Lines.{is_path}
 
 -- what is left where the front is there
 abbrev behind : List ℕ → List ℕ → Bool → Option (List ℕ)
@@ -42,3 +45,32 @@ pub stripped : (front bytes : List ℕ) (result : Option (Bor (List ℕ))) → M
     → option_copied result ≡ after front bytes
 stripped front bytes None strip = sym (after_is front bytes ∙ ap (behind front bytes) strip)
 stripped front bytes (Some x) strip = let r : x.now ≡ drop (length front) bytes = strip.1 in rw r (sym (after_is front bytes ∙ ap (behind front bytes) strip.0))
+
+-- a path by its test
+
+rooted_by : (begins ends : Bool) (byte : ℕ) (path : List ℕ) → (byte == 47) ≡ begins → ends_in_slash (byte ∷ path) ≡ ends → (begins && not ends) ≡ true → IsPath (byte ∷ path)
+rooted_by false ends byte path b e is = absurd (cc is)
+rooted_by true true byte path b e is = absurd (cc is)
+rooted_by true false byte path b e is = let same : byte ≡ 47 = grind (arith, nat_tests, b) in record { begins = (path, ap (λ c. c ∷ path) same); ends = e }
+
+pub rooted : (path : List ℕ) → is_path path ≡ true → IsPath path
+rooted [] is = absurd (cc is)
+rooted (byte ∷ path) is = rooted_by (byte == 47) (ends_in_slash (byte ∷ path)) byte path refl refl is
+
+pub rooted_test : (path : List ℕ) → IsPath path → is_path path ≡ true
+rooted_test path is =
+    let whole : ends_in_slash (47 ∷ is.begins.0) ≡ false = ap ends_in_slash (sym is.begins.1) ∙ is.ends in
+    ap is_path is.begins.1 ∙ ap not whole
+
+pub last_slash : (path : List ℕ) → 0 < length path → ends_in_slash path ≡ (get_or path (length path - 1) 0 == 47)
+last_slash [] some = absurd (omega arith)
+last_slash (byte ∷ []) some = refl
+last_slash (byte ∷ next ∷ path) some =
+    let at : length (byte ∷ next ∷ path) - 1 ≡ suc (length (next ∷ path) - 1) = omega arith in
+    rw at (last_slash (next ∷ path) (omega arith))
+
+pub is_path_is : (path : List ℕ) → 0 < length path → get_or path 0 0 ≡ 47 → not (get_or path (length path - 1) 0 == 47) ≡ is_path path
+is_path_is [] some first = absurd (omega arith)
+is_path_is (byte ∷ path) some first =
+    let begins : (byte == 47) ≡ true = grind (arith, nat_tests, first) in
+    ap not (sym (last_slash (byte ∷ path) some)) ∙ sym (ap (λ t. t && not (ends_in_slash (byte ∷ path))) begins)

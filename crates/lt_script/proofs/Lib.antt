@@ -8,3 +8,4 @@ pub mod WholeTexts
 pub mod Noting
 pub mod Telling
 pub mod Becoming
+pub mod Turning

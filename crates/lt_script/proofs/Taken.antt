@@ -14,7 +14,7 @@ use Rattle.lt_script.specs.Quoting.{unquote}
 use Rattle.lt_script.specs.Fields.{number_at, name_at, address_at, octet_at, end_at, after}
 use Rattle.lt_script.specs.Lines.{line_of, ended, is_path, on, accept_of, data_of, end_of, take_of, file_of, fill_of}
 use Rattle.lt_script.specs.Grammar.{name_text, IsName, address_text, IsAddress, IsLine}
-use Rattle.lt_script.proofs.Fronts.{after_takes}
+use Rattle.lt_script.proofs.Fronts.{after_takes, rooted}
 use Rattle.lt_script.proofs.Numbers.{ReadsNumber, number_takes}
 use Rattle.lt_script.proofs.Quoted.{quoted_takes}
 
@@ -197,7 +197,7 @@ file_takes bytes said some =
     subst (λ (l : Line). IsLine l (codes "file \"" ++ bytes)) e.1 (record {
       named = w0.0;
       quoted = w4.0;
-      rooted = path.0;
+      rooted = rooted v0.0.0 path.0;
       is_named = w0.1;
       dated = w2.high;
       is_quoted = w4.1;
@@ -221,7 +221,7 @@ fill_takes bytes said some =
     let e = ended_takes v4.0.1 (File (file.Fill v0.0.0 v2.0.0 v4.0.0)) said path.1 in
     subst (λ (l : Line). IsLine l (codes "fill \"" ++ bytes)) e.1 (record {
       named = w0.0;
-      rooted = path.0;
+      rooted = rooted v0.0.0 path.0;
       is_named = w0.1;
       dated = w2.high;
       sized = w4.high;

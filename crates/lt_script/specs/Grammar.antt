@@ -1,15 +1,15 @@
 -- The grammar of a script's lines: for each thing that a line can say, the bytes that say it.
-use Rattle.std.specs.Prelude.{◌≡◌, ◌≢◌, ℕ, ◌+◌, ◌*◌, ◌<◌, ◌≤◌, true, false, List, [], ◌∷◌, ◌++◌, length, get_or, ◌⊎◌, codes}
+use Rattle.std.specs.Prelude.{◌≡◌, ◌≢◌, ℕ, ◌+◌, ◌*◌, ◌<◌, ◌≤◌, false, List, [], ◌∷◌, ◌++◌, length, get_or, ◌⊎◌, codes}
 use Rattle.std.specs.Char.{digit_char}
 use Rattle.std.specs.Fmt.{decimal}
 use Rattle.lt_world.specs.declared.net.Address.{Address}
+use Rattle.lt_world.specs.Memory.{IsPath}
 use Rattle.lt_script.specs.declared.script.Name.{Name}
 use Rattle.lt_script.specs.declared.script.Step.TheVariants as step
 use Rattle.lt_script.specs.declared.script.ScriptFile.TheVariants as file
 use Rattle.lt_script.specs.declared.script.TheConstants.{MOST_NAME, MOST_TIME, MOST_FILL, MOST_TAKE, MOST_COUNT}
 use Rattle.lt_script.specs.declared.lines.Line.{Line}
 use Rattle.lt_script.specs.declared.lines.Line.TheVariants.{Skip, File, Step}
-use Rattle.lt_script.specs.Lines.{is_path}
 
 -- one byte of a quoted text, and how it may be written
 pub data IsPiece : ℕ → List ℕ → Type 0 where
@@ -67,7 +67,7 @@ pub record IsTake (link : Name) (size count : ℕ) (bytes : List ℕ) : Type 0 w
 pub record IsFile (path : List ℕ) (time : ℕ) (text bytes : List ℕ) : Type 0 where
   pub named : List ℕ
   pub quoted : List ℕ
-  pub rooted : is_path path ≡ true
+  pub rooted : IsPath path
   pub is_named : IsQuoted path named
   pub dated : time ≤ MOST_TIME
   pub is_quoted : IsQuoted text quoted
@@ -75,7 +75,7 @@ pub record IsFile (path : List ℕ) (time : ℕ) (text bytes : List ℕ) : Type 
 
 pub record IsFill (path : List ℕ) (time size : ℕ) (bytes : List ℕ) : Type 0 where
   pub named : List ℕ
-  pub rooted : is_path path ≡ true
+  pub rooted : IsPath path
   pub is_named : IsQuoted path named
   pub dated : time ≤ MOST_TIME
   pub sized : size ≤ MOST_FILL

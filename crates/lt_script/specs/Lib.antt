@@ -16,3 +16,5 @@ pub mod Kept
 pub mod Ports
 pub mod Noted
 pub mod Notes
+pub mod NetView
+pub mod Later

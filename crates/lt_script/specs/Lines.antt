@@ -1,5 +1,6 @@
 -- How the lines of a script are read.
-use Rattle.std.specs.Prelude.{ℕ, ◌-◌, Bool, ◌&&◌, not, List, [], ◌∷◌, length, get_or, Option, Some, None, if◌then◌else◌, ◌==◌, codes}
+use Rattle.std.specs.Prelude.{ℕ, Bool, false, ◌&&◌, not, List, [], ◌∷◌, Option, Some, None, if◌then◌else◌, ◌==◌, codes}
+use Rattle.lt_world.specs.Disk.{ends_in_slash}
 use Rattle.lt_script.specs.declared.script.Step.TheVariants as step
 use Rattle.lt_script.specs.declared.script.ScriptFile.TheVariants as file
 use Rattle.lt_script.specs.declared.script.TheConstants.{MOST_TIME, MOST_FILL, MOST_TAKE, MOST_COUNT}
@@ -15,9 +16,13 @@ abbrev pub ended : List ℕ → Line → Option Line
 ended [] line = Some line
 ended (b ∷ bytes) line = None
 
+abbrev pub begins_in_slash : List ℕ → Bool
+begins_in_slash [] = false
+begins_in_slash (byte ∷ path) = byte == 47
+
 -- a path begins with a slash and doesn't end with one
 abbrev pub is_path : List ℕ → Bool
-is_path text = (get_or text 0 0 == 47) && not (get_or text (length text - 1) 0 == 47)
+is_path text = begins_in_slash text && not (ends_in_slash text)
 
 abbrev pub if_path : List ℕ → Option Line → Option Line
 if_path text line = if is_path text then line else None

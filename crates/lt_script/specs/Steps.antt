@@ -59,10 +59,13 @@ abbrev pub less : Step → List Step → List Step
 less (step.Take name size count) rest = if nat_lt 1 count then step.Take name size (count - 1) ∷ rest else rest
 less other rest = rest
 
--- how many events a step has
+-- how often a step is an event
+abbrev pub count_of : Step → ℕ
+count_of (step.Take name size count) = count
+count_of other = 1
+
 abbrev pub events_of : Step → ℕ
-events_of (step.Take name size count) = max count 1
-events_of other = 1
+events_of step = max (count_of step) 1
 
 abbrev pub events_left : List Step → ℕ
 events_left [] = 0

@@ -6,6 +6,7 @@
 mod fields;
 mod links;
 mod lines;
+mod net;
 mod notes;
 mod parse;
 mod port;

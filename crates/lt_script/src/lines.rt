@@ -59,10 +59,10 @@ fn ended(rest: &[u8], line: Line) -> Option<Line>
 fn is_path(text: &[u8]) -> bool
     ensures { result ≡ is_path text.now }
 {
-    if text.len() == 0 {
-        return false;
+    match text {
+        [] => false,
+        [first, ..] => *first == b'/' && text[text.len() - 1] != b'/',
     }
-    text[0] == b'/' && text[text.len() - 1] != b'/'
 }
 
 #[tactic(auto, unfolding(crate::specs::Lines::accept_of))]
