@@ -9,3 +9,4 @@ pub mod Noting
 pub mod Telling
 pub mod Becoming
 pub mod Turning
+pub mod Loading

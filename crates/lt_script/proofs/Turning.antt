@@ -52,7 +52,7 @@ lowered_none (step.Bytes name bytes) = refl
 lowered_none (step.End name) = refl
 lowered_none (step.Take name size count) = let e : count - 0 ≡ count = omega arith in rw e refl
 
-rest_none : (steps : List Step) → rest_of 0 steps ≡ steps
+pub rest_none : (steps : List Step) → rest_of 0 steps ≡ steps
 rest_none [] = refl
 rest_none (first ∷ steps) = ap (λ (s : Step). s ∷ steps) (lowered_none first)
 

@@ -18,3 +18,4 @@ pub mod Noted
 pub mod Notes
 pub mod NetView
 pub mod Later
+pub mod Loads

@@ -5,6 +5,7 @@
 
 mod fields;
 mod links;
+mod load;
 mod lines;
 mod net;
 mod notes;
@@ -15,5 +16,6 @@ mod quoting;
 mod script;
 mod steps;
 
+pub use net::ScriptNet;
 pub use parse::parse_script;
 pub use script::{Name, Script, ScriptError, ScriptFile, Step};

@@ -1,17 +1,21 @@
 //! A net in memory, which plays a script.
-ghost use Rattle.std.specs.Prelude.{◌≡◌, ℕ, ◌+◌, ◌<◌, ◌≤◌, ◌∷◌, [], List, length, false, None, OnOk, IfOk};
+ghost use Rattle.std.specs.Prelude.{◌≡◌, ℕ, ◌+◌, ◌<◌, ◌≤◌, ◌∷◌, [], List, length, false, OnOk};
 ghost use Rattle.lt_world.specs.Trace.{said, names, link_bound, Close as closed};
 ghost use Rattle.lt_world.specs.Answers.{event_tells, kind_of, IsFresh, IsNumbered, OnEvent, UsesEvent, read_act, write_act, dial_act, GotWithin, TookWithin, IsFreshDial, IsNumberedDial};
 ghost use Rattle.lt_world.specs.Causes.{GotCause, TookCause, DialCause};
 ghost use Rattle.lt_script.specs.Calls.{after, Reads, Writes, Connects, Closes, Turns, start};
 ghost use Rattle.lt_script.specs.Steps.{events_left};
 ghost use Rattle.lt_script.specs.Playing.{unplayed, IsLater};
+ghost use Rattle.lt_script.specs.Texts.{Spells};
+ghost use Rattle.lt_script.specs.Loads.{planted};
+ghost use Rattle.lt_world.specs.Memory.{tree_of};
 
 use crate::links::Links;
-use crate::script::Step;
+use crate::load::{copy_steps, plant};
+use crate::script::{Script, Step};
 use crate::steps::{ROOM, Taker, affect, allowed, due_from, spend, taker_of};
-use lt_bytes::List;
-use lt_world::{Address, Dialled, Ending, Event, Got, Link, Net, NextKind, Owner, Took};
+use lt_bytes::{List, NoMemory};
+use lt_world::{Address, Dialled, Ending, Event, Got, Link, MemFiles, Net, NextKind, Owner, Took};
 use std::alloc::Global;
 use std::marker::Model;
 
@@ -60,6 +64,22 @@ impl ScriptNet {
             faults: 0,
             last: NextKind::NoneYet,
         }
+    }
+
+    /// Takes the steps of a script, and puts its files where they are found. Where memory is wanted, the net and the
+    /// files are given up.
+    pub fn load(&mut self, script: &Script, files: &mut MemFiles) -> Result<(), NoMemory>
+        requires new { self.old ≡ unplayed [] }
+        requires spelled { (bytes : List ℕ) × Spells bytes script.now }
+        ensures plays { OnOk result (self.new ≡ unplayed script.now.steps) }
+        ensures tree { OnOk result (tree_of files.new ≡ planted script.now.files (tree_of files.old)) }
+        ensures rest { files.new ≡ record files.old { places = files.new.places } }
+    {
+        plant(self.alloc, script.files.as_slice(), files)?;
+        self.steps = copy_steps(self.alloc, script.steps.as_slice())?;
+        self.at = 0;
+        self.played = 0;
+        Ok(())
     }
 
     // The next event, or what comes in its place.

@@ -1,0 +1,82 @@
+//! A script is put where it plays: its files into memory, its steps into a net.
+ghost use Rattle.std.specs.Prelude.{◌≡◌, ◌+◌, OnOk, IfOk, vec_len, vec_capacity};
+ghost use Rattle.lt_world.specs.Memory.{tree_of, IsPath};
+ghost use Rattle.lt_script.specs.Loads.{letters, path_of, with_file, planted, AreRooted};
+
+use crate::script::{ScriptFile, Step};
+use lt_bytes::{List, NoMemory, Text};
+use lt_world::MemFiles;
+use std::alloc::Global;
+
+/// Adds the files of a script.
+pub fn plant(alloc: Global, script: &[ScriptFile], files: &mut MemFiles) -> Result<(), NoMemory>
+    requires { AreRooted script.now }
+    ensures tree { OnOk result (tree_of files.new ≡ planted script.now (tree_of files.old)) }
+    ensures rest { files.new ≡ record files.old { places = files.new.places } }
+{
+    for file in script {
+        plant_one(alloc, file, files)?;
+    }
+    Ok(())
+}
+
+fn plant_one(alloc: Global, file: &ScriptFile, files: &mut MemFiles) -> Result<(), NoMemory>
+    requires { IsPath (path_of file.now) }
+    ensures tree { OnOk result (tree_of files.new ≡ with_file file.now (tree_of files.old)) }
+    ensures rest { files.new ≡ record files.old { places = files.new.places } }
+{
+    match file {
+        ScriptFile::Bytes { path, time, bytes } => {
+            files.add_file(path.bytes(), *time, bytes.bytes())
+        }
+        ScriptFile::Fill { path, time, size } => {
+            let bytes = letters(alloc, *size as usize)?;
+            files.add_file(path.bytes(), *time, &bytes)
+        }
+    }
+}
+
+// The letters from `a` to `z`, again and again.
+fn letters(alloc: Global, size: usize) -> Result<Vec<u8>, NoMemory>
+    ensures { IfOk result (λ bytes. bytes.items ≡ letters size) }
+{
+    let Ok(mut bytes) = Vec::with_capacity(alloc, size) else {
+        return Err(NoMemory);
+    };
+    for i in 0..size {
+        bytes.push_reserved(b'a' + (i % 26) as u8);
+    }
+    Ok(bytes)
+}
+
+/// A copy of steps.
+pub fn copy_steps(alloc: Global, steps: &[Step]) -> Result<List<Step>, NoMemory>
+    ensures { IfOk result (λ copy. copy ≡ steps.now) }
+{
+    let mut copy = List::new(alloc);
+    for step in steps {
+        copy.push(copy_step(alloc, step)?)?;
+    }
+    Ok(copy)
+}
+
+fn copy_step(alloc: Global, step: &Step) -> Result<Step, NoMemory>
+    ensures { IfOk result (λ copy. copy ≡ step.now) }
+{
+    match step {
+        Step::Accept { peer, local } => Ok(Step::Accept {
+            peer: *peer,
+            local: *local,
+        }),
+        Step::Bytes { link, bytes } => {
+            let bytes = Text::from_bytes(alloc, bytes.bytes())?;
+            Ok(Step::Bytes { link: *link, bytes })
+        }
+        Step::End { link } => Ok(Step::End { link: *link }),
+        Step::Take { link, size, count } => Ok(Step::Take {
+            link: *link,
+            size: *size,
+            count: *count,
+        }),
+    }
+}
