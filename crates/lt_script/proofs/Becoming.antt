@@ -127,7 +127,7 @@ is_written zero at kept bytes room acts within is_at taken ending =
     record { grows = record { given = begins_all kept.side.given; taken = ([], refl) }; fit = tt; taken = append-nil kept.taken ∙ taken; ending = ending }
 is_written (suc n) at kept bytes room acts within is_at taken ending =
     let piece : take (suc n) (drop at (kept.taken ++ take (suc n) bytes)) ≡ take (suc n) bytes =
-          rw (is_at, drop-append_seam kept.taken (take (suc n) bytes), take_all (suc n) (take (suc n) bytes) (omega (arith, length-take (suc n) bytes))) refl in
+    rw (is_at, drop-append_seam kept.taken (take (suc n) bytes), take_all (suc n) (take (suc n) bytes) (omega (arith, length-take (suc n) bytes))) refl in
     record {
       grows = record { given = begins_all kept.side.given; taken = (take (suc n) bytes, refl) };
       fit = omega (arith, is_at, length-append kept.taken (take (suc n) bytes), length-take (suc n) bytes);

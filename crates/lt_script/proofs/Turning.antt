@@ -69,6 +69,7 @@ skip_here played (first ∷ steps) sides same = here (is_due first sides) refl s
     longer : (sides : List Side) (steps : List Step) → length (skip sides steps) ≤ length steps
     longer sides [] = le_refl 0
     longer sides (first ∷ steps) = grind (arith, longer sides steps)
+
     here : (t : Bool) → is_due first sides ≡ t → (if t then first ∷ steps else skip sides steps) ≡ first ∷ steps → skip sides (rest_of played (first ∷ steps)) ≡ rest_of played (first ∷ steps)
     here true due same = skip_by true played first steps sides due
     here false due same = absurd (omega (arith, ap length same, longer sides steps))
@@ -93,7 +94,6 @@ turned_later Idle a b same turns = by_call Next a b same turns.1
 turned_later Over a b same turns = by_call Next a b same turns.1
 
 -- what holds of the answer that is due, and of want of memory, holds of each answer
-
 
 turned : (P : Event → Game → Game → Type 0) (event : Event) (old new : Game) → ((old : Game) → P NoMemory old old) → ((old : Game) → P (answer_of (skip old.sides old.left) old.sides) old (after Next old)) → Turns event old new → P event old new
 turned P NoMemory old new none some turns = subst (λ (g : Game). P NoMemory old g) (sym turns) (none old)

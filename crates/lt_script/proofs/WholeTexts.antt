@@ -104,7 +104,6 @@ pub script_bad : (bytes : List ℕ) (bad : ℕ) → script_of bytes ≡ Err bad 
 unfolding script_of
 script_bad bytes bad some = bad_from (lines_of bytes).0 (lines_of bytes).1 bad some
 
-
 -- one line alone is the first outside the grammar
 
 one_at : (number a b : ℕ) (lines : List (List ℕ)) (last : List ℕ) → IsBadAt number lines last a → IsBadAt number lines last b → a ≡ b

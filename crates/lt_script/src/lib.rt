@@ -4,9 +4,9 @@
 #![tactic(auto)]
 
 mod fields;
+mod lines;
 mod links;
 mod load;
-mod lines;
 mod net;
 mod notes;
 mod parse;

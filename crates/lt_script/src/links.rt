@@ -10,8 +10,8 @@ ghost use Rattle.lt_script.specs.Views.{output_of, ending_of};
 ghost use Rattle.lt_script.specs.Told.{no_links, Tells, Stays};
 
 use crate::notes::{Done, Note, read_done, write_done};
-use crate::ports::{close_at, end_at, give_at, read_at, reserve_at, take_at};
 use crate::port::Port;
+use crate::ports::{close_at, end_at, give_at, read_at, reserve_at, take_at};
 use lt_bytes::NoMemory;
 use lt_world::{Address, Ending, Got, Link, Owner};
 use std::alloc::Global;

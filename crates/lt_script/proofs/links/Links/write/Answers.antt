@@ -38,6 +38,6 @@ returns c =
     let what = write_done (length c.args.bytes.now) (length c.taken-at.result.now) c.args.n in
     tells_act link _ _ _ c.args.n _ _ (write_act_of c.args.n (length c.taken-at.result.now) kept c.args.bytes.now room at)
     (tells_same link _ c.args.self.now.sides c.args.n _ _
-      (tells_set c.self.inside now _ link what next (λ side. side) c.args.n c.self.invariant c.self.view_is below (piece c) (rw c.write_done.ensures at c.push_reserved.ensures.items)
-        (omega (arith, c.push_reserved.ensures.len, c.push_reserved.ensures.capacity))
-        (record { given = begins_all kept.side.given; taken = (take c.args.n c.args.bytes.now, refl) }) refl (omega (arith, c.take_at.ensures.room, c.split_at.ensures.front_len))))
+    (tells_set c.self.inside now _ link what next (λ side. side) c.args.n c.self.invariant c.self.view_is below (piece c) (rw c.write_done.ensures at c.push_reserved.ensures.items)
+    (omega (arith, c.push_reserved.ensures.len, c.push_reserved.ensures.capacity))
+    (record { given = begins_all kept.side.given; taken = (take c.args.n c.args.bytes.now, refl) }) refl (omega (arith, c.take_at.ensures.room, c.split_at.ensures.front_len))))
