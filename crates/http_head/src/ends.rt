@@ -1,5 +1,5 @@
 //! Where a head ends.
-ghost use Rattle.std.specs.Prelude.{◌≡◌, ◌+◌, ◌-◌, ◌≤◌, ◌<◌, length, take, option_map, IfSome};
+ghost use Rattle.std.specs.Prelude.{◌≡◌, ◌+◌, ◌-◌, ◌≤◌, ◌<◌, length, take, IfSome};
 ghost use Rattle.http_head.specs.Lines.{end_of};
 ghost use Rattle.http_head.specs.Ends.{head_end, head_end_in, IsWithin};
 

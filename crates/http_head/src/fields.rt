@@ -1,7 +1,7 @@
 //! The fields of a head, in the map that keeps them.
-ghost use Rattle.std.specs.Prelude.{◌≡◌, ◌≤◌, ◌⊎◌, length, map, slice_get, option_map, All, IfOk, IfErr, string_bytes, Err};
+ghost use Rattle.std.specs.Prelude.{◌≡◌, ◌≤◌, ◌⊎◌, length, map, slice_get, option_map, All, IfOk, IfErr, Err};
 ghost use Rattle.httparse.specs.Spans.{IsHeaderWithin, header_bytes};
-ghost use Rattle.http_header.specs.HeaderMap.{get_all, append, Entries};
+ghost use Rattle.http_header.specs.HeaderMap.{get_all, append};
 ghost use Rattle.http_header.specs.Token.{lowercase};
 ghost use Rattle.http_head.specs.Fields.{IsTaken, kept, map_of};
 

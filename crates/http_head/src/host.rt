@@ -1,6 +1,5 @@
 //! The host that a request is for.
-ghost use Rattle.std.specs.Prelude.{◌≡◌, length, IfOk};
-ghost use Rattle.http_header.specs.HeaderMap.{get_all};
+ghost use Rattle.std.specs.Prelude.{◌≡◌, IfOk};
 ghost use Rattle.http_head.specs.Host.{has_bad_host, host_field_of, without_port, host_of};
 
 use crate::fields::{count_of, first_of};

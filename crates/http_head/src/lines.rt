@@ -96,15 +96,15 @@ fn without_return(line: &[u8]) -> &[u8]
 }
 
 /// Whether eight bytes are a version other than 1.0 and 1.1.
-fn is_other_version(v: &[u8]) -> bool
-    requires { length v.now ≡ 8 }
-    ensures { result ≡ is_other_version v.now }
+fn is_other_version(version: &[u8]) -> bool
+    requires { length version.now ≡ 8 }
+    ensures { result ≡ is_other_version version.now }
 {
-    &v[..5] == b"HTTP/".as_slice()
-        && v[5].is_ascii_digit()
-        && v[6] == b'.'
-        && v[7].is_ascii_digit()
-        && !(v[5] == b'1' && v[7] <= b'1')
+    &version[..5] == b"HTTP/".as_slice()
+        && version[5].is_ascii_digit()
+        && version[6] == b'.'
+        && version[7].is_ascii_digit()
+        && !(version[5] == b'1' && version[7] <= b'1')
 }
 
 /// Whether the line ends in a version other than 1.0 and 1.1.

@@ -1,5 +1,5 @@
 //! The normal form of a path.
-ghost use Rattle.std.specs.Prelude.{◌≡◌, [], ◌++◌, map, IfOk, OnOk};
+ghost use Rattle.std.specs.Prelude.{◌≡◌, [], map, IfOk, OnOk};
 ghost use Rattle.http_target.specs.Path.{is_dropped, is_up, is_open, keep, kept_of, last_of, segments, spell, normal};
 
 use lt_bytes::{NoMemory, Text};

@@ -1,8 +1,8 @@
 //! What a request target says.
-ghost use Rattle.std.specs.Prelude.{◌≡◌, ◌↔◌, ◌||◌, ◌≤◌, ◌==◌, ◌∷◌, length, true, None, Some, IfOk, IsErrOf, option_map};
-ghost use Rattle.std.specs.List.{list_any, position_or_len, before_first, after_first};
+ghost use Rattle.std.specs.Prelude.{◌≡◌, ◌↔◌, ◌||◌, ◌≤◌, ◌==◌, length, None, Some, IfOk, IsErrOf, option_map};
+ghost use Rattle.std.specs.List.{list_any, position_or_len};
 ghost use Rattle.percent_encoding.specs.Percent as spec;
-ghost use Rattle.http_target.specs.Target.{has_scheme, ends_authority, authority_of, after_authority, begins_with_slash, raw_of, without_fragment, sent_path_of, query_of, decoded_path_of, is_control, is_bad, read_raw, target_of};
+ghost use Rattle.http_target.specs.Target.{has_scheme, ends_authority, authority_of, after_authority, begins_with_slash, raw_of, without_fragment, sent_path_of, query_of, decoded_path_of, is_control, is_bad, target_of};
 ghost use Rattle.http_target.specs.Path.{normal};
 
 use crate::path::normal;
