@@ -1,5 +1,5 @@
 // Files in memory, some of whose calls fail as planned. They tell all.
-ghost use Rattle.std.specs.Prelude.{true, ◌≡◌, ◌+◌, ◌≤◌, ◌<◌, length, [], ◌∷◌, ◌++◌, None, OnOk, OnErr, ℕ, List, Some};
+ghost use Rattle.std.specs.Prelude.{◌≡◌, ◌+◌, ◌≤◌, ◌<◌, length, [], ◌∷◌, ◌++◌, None, OnOk, OnErr, ℕ, List, Some, true};
 ghost use Rattle.lt_world.specs.Disk.{IsFileAt};
 ghost use Rattle.lt_world.specs.FileAnswers.{FoundRight, FoundWithin, OpenedWithin};
 ghost use Rattle.lt_world.specs.FileRuns.{planned, after_find, after_open, after_read, after_release, FindPlanned, OpenPlanned, ReadPlanned, OpensAt, ReadsAt};
@@ -102,16 +102,12 @@ impl MemFiles {
         ensures faults { self.old.faults ≤ self.new.faults }
     {
         let failed = self.find_plan.is_due();
-        let kind = FileCall::Find;
-        if self
-            .calls
-            .add(Call {
-                kind,
-                owner,
-                failed,
-            })
-            .is_err()
-        {
+        let call = Call {
+            kind: FileCall::Find,
+            owner,
+            failed,
+        };
+        if self.calls.add(call).is_err() {
             return Found::NoMemory;
         }
         self.find_plan.count();
@@ -141,16 +137,12 @@ impl MemFiles {
             return Opened::NoMemory;
         };
         let failed = self.open_plan.is_due();
-        let kind = FileCall::Open;
-        if self
-            .calls
-            .add(Call {
-                kind,
-                owner,
-                failed,
-            })
-            .is_err()
-        {
+        let call = Call {
+            kind: FileCall::Open,
+            owner,
+            failed,
+        };
+        if self.calls.add(call).is_err() {
             return Opened::NoMemory;
         }
         if failed {

@@ -34,3 +34,93 @@ fn a_path_is_what_the_last_call_made_of_it(rt: HostRuntime) -> Result<(), Fail> 
     }
     Ok(())
 }
+
+// Finds, opens, reads and releases the file at a path, if it has as many bytes as the buffer.
+fn read_whole<F: Files>(files: &mut F, path: &[u8], buf: &mut [u8]) -> Option<Result<(), Fault>> {
+    let Found::File { size, time: _ } = files.find(OWNER, path) else {
+        return None;
+    };
+    if size != buf.len() as u64 {
+        return None;
+    }
+    let Opened::File {
+        file,
+        size: _,
+        time: _,
+    } = files.open(OWNER, path)
+    else {
+        return None;
+    };
+    let read = files.read_at(OWNER, file, 0, buf);
+    files.release(file);
+    Some(read)
+}
+
+#[test]
+fn planned_calls_of_files_fail_and_no_others(rt: HostRuntime) -> Result<(), Fail> {
+    let mut files = MemFiles::new(rt.alloc());
+    files.add_file(b"/a", 0, b"hello")?;
+    files.plan(FileCall::Find, 1)?;
+    files.plan(FileCall::Open, 0)?;
+    files.plan(FileCall::Read, 0)?;
+    for (read, bytes) in [
+        (None, b"....."),
+        (None, b"....."),
+        (Some(Err(Fault)), b"....."),
+        (Some(Ok(())), b"hello"),
+    ] {
+        let mut buf = *b".....";
+        assert_eq!(rt; read_whole(&mut files, b"/a", &mut buf), read);
+        assert_eq!(rt; &buf, bytes);
+    }
+    Ok(())
+}
+
+#[test]
+fn planned_calls_of_texts_fail_where_the_text_is_there(rt: HostRuntime) -> Result<(), Fail> {
+    let mut texts = MemTexts::new(rt.alloc());
+    texts.add(b"K", b"old")?;
+    texts.add(b"K", b"abc")?;
+    for nth in 0..3 {
+        texts.plan(nth)?;
+    }
+    for (name, max, answer) in [
+        (b"L", 9, b"missing".as_slice()),
+        (b"K", 2, b"long"),
+        (b"K", 3, b"failed"),
+        (b"K", 3, b"abc"),
+    ] {
+        let fetched = texts.fetch(name, max);
+        assert_eq!(rt; shown(&fetched), answer);
+    }
+    Ok(())
+}
+
+// The text, or the name of the answer.
+fn shown(fetched: &Fetched) -> &[u8] {
+    match fetched {
+        Fetched::Text(text) => text.bytes(),
+        Fetched::Missing => b"missing",
+        Fetched::Long => b"long",
+        Fetched::Failed => b"failed",
+        Fetched::NoMemory => b"memory",
+    }
+}
+
+#[test]
+fn a_sink_fails_as_planned_and_when_it_is_full(rt: HostRuntime) -> Result<(), Fail> {
+    let mut sink = MemSink::new(rt.alloc(), 4)?;
+    sink.plan(0);
+    sink.plan(1);
+    for (piece, took) in [
+        (b"ab".as_slice(), Ok(2)),
+        (b"cd", Err(Fault)),
+        (b"cde", Ok(2)),
+        (b"e", Err(Fault)),
+        (b"", Ok(0)),
+    ] {
+        assert_eq!(rt; sink.write(piece), took);
+    }
+    assert_eq!(rt; sink.bytes(), b"abcd".as_slice());
+    Ok(())
+}
