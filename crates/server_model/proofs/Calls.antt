@@ -1,0 +1,78 @@
+-- What a further call on files changes of what the calls say: nothing but for its own request.
+use Rattle.std.proofs.Common.{◌≡◌, ◌≢◌, ℕ, ◌+◌, List, ◌∷◌, Bool, true, false, ◌&&◌, ◌==◌, if◌then◌else◌, refl, ◌∙◌, ap, arith}
+use Rattle.std.proofs.lemmas.Bool.Decides.{nat_tests}
+use Rattle.lt_world.specs.declared.files.Call.{Call}
+use Rattle.lt_world.specs.declared.files.FileCall.{FileCall}
+use Rattle.lt_world.specs.declared.files.FileCall.TheVariants as call
+use Rattle.lt_world.specs.declared.net.Owner.{Owner}
+use Rattle.lt_world.specs.Disk.{Disk, asked, is_kind, is_owner, count, own_calls, Logged, log_of, is_logged}
+use Rattle.lt_world.proofs.Disks.{quiet}
+use Rattle.server_model.specs.Plan.{World, world_of, owner_at, call_count, has_failed_call, with_call}
+
+pub own_same : (client : ℕ) (c : Call) (calls : List Call) → c.owner.conn ≡ client → own_calls client (c ∷ calls) ≡ c ∷ own_calls client calls
+own_same client c calls is = grind (arith, nat_tests, is)
+
+pub own_other : (client : ℕ) (c : Call) (calls : List Call) → c.owner.conn ≢ client → own_calls client (c ∷ calls) ≡ own_calls client calls
+own_other client c calls apart = grind (arith, nat_tests, apart)
+
+same_owner : (owner : Owner) → is_owner owner owner ≡ true
+same_owner owner = grind (arith, nat_tests)
+
+pub other_owner : (owner : Owner) (client k : ℕ) → owner.request ≢ k → is_owner owner (record { conn = client; request = k }) ≡ false
+other_owner owner client k apart = grind (arith, nat_tests, apart)
+
+pub and_false : (b : Bool) → (b && false) ≡ false
+and_false true = refl
+and_false false = refl
+
+module _ (what : FileCall) (owner : Owner) (nth : ℕ) where
+  log_by : Bool → Logged → List Logged → Bool
+  log_by failed e log = is_logged what owner nth (if failed then e ∷ log else log)
+
+  -- a call that isn't such a one
+  pub unlogged : (c : Call) (calls : List Call) → (is_kind c.kind what && is_owner c.owner owner) ≡ false → is_logged what owner nth (log_of (c ∷ calls)) ≡ is_logged what owner nth (log_of calls)
+  unlogged c calls isnt = by c.failed
+    where
+      by : (failed : Bool) → is_logged what owner nth (if failed then record { owner = c.owner; kind = c.kind; nth = count c.kind c.owner calls } ∷ log_of calls else log_of calls) ≡ is_logged what owner nth (log_of calls)
+      by true = ap (λ t. if t && count c.kind c.owner calls == nth then true else is_logged what owner nth (log_of calls)) isnt
+      by false = refl
+
+-- the first call of its kind for its owner
+pub newest : (what : FileCall) (owner : Owner) (failed : Bool) (calls : List Call) → is_kind what what ≡ true → count what owner calls ≡ 0 → is_logged what owner 0 (log_of (record { kind = what; owner = owner; failed = failed } ∷ calls)) ≡ failed
+newest what owner true calls kind none =
+    (λ i. if kind i && same_owner owner i && none i == 0 then true else is_logged what owner 0 (log_of calls))
+newest what owner false calls kind none = quiet what owner 0 calls none
+
+-- a call that the files tell is one of the client's world
+pub asked_is : (root : List ℕ) (disk : Disk) (client k : ℕ) (what : FileCall) (owner : Owner) (failed : Bool) → owner.conn ≡ client → owner.request ≡ k
+    → world_of root (asked what owner failed disk) client ≡ with_call what k failed (world_of root disk client)
+asked_is root disk client k what owner failed conn request =
+    ap (λ (calls : List Call). record { client = client; root = root; tree = disk.tree; calls = calls }) (own_same client (record { kind = what; owner = owner; failed = failed }) disk.calls conn)
+    ∙ (λ i. record { client = client; root = root; tree = disk.tree; calls = record { kind = what; owner = record { conn = conn i; request = request i }; failed = failed } ∷ own_calls client disk.calls })
+
+pub asked_other : (root : List ℕ) (disk : Disk) (client : ℕ) (what : FileCall) (owner : Owner) (failed : Bool) → owner.conn ≢ client → world_of root (asked what owner failed disk) client ≡ world_of root disk client
+asked_other root disk client what owner failed apart =
+    ap (λ (calls : List Call). record { client = client; root = root; tree = disk.tree; calls = calls }) (own_other client (record { kind = what; owner = owner; failed = failed }) disk.calls apart)
+
+module _ (world : World) (k : ℕ) where
+  pub count_other : (made : FileCall) (failed : Bool) (j : ℕ) (what : FileCall) → k ≢ j → call_count (with_call made k failed world) j what ≡ call_count world j what
+  count_other made failed j what apart =
+      ap (λ t. if is_kind made what && t then call_count world j what + 1 else call_count world j what) (other_owner (owner_at world k) world.client j apart)
+      ∙ ap (λ t. if t then call_count world j what + 1 else call_count world j what) (and_false (is_kind made what))
+
+  -- after the find of a request for which nothing was asked
+  pub find_failed : (failed : Bool) → call_count world k call.Find ≡ 0 → has_failed_call (with_call call.Find k failed world) k call.Find ≡ failed
+  find_failed failed none = newest call.Find (owner_at world k) failed world.calls refl none
+
+  pub unopened : (failed : Bool) → call_count world k call.Open ≡ 0 → has_failed_call (with_call call.Find k failed world) k call.Open ≡ false
+  unopened failed none = unlogged call.Open (owner_at world k) 0 (record { kind = call.Find; owner = owner_at world k; failed = failed }) world.calls refl ∙ quiet call.Open (owner_at world k) 0 world.calls none
+
+  pub still_unopened : (failed : Bool) → call_count (with_call call.Find k failed world) k call.Open ≡ call_count world k call.Open
+  still_unopened failed = refl
+
+  -- and after its open
+  pub open_failed : (failed opened : Bool) → call_count world k call.Open ≡ 0 → has_failed_call (with_call call.Open k opened (with_call call.Find k failed world)) k call.Open ≡ opened
+  open_failed failed opened none = newest call.Open (owner_at world k) opened (with_call call.Find k failed world).calls refl none
+
+  pub find_stays : (failed opened : Bool) → call_count world k call.Find ≡ 0 → has_failed_call (with_call call.Open k opened (with_call call.Find k failed world)) k call.Find ≡ failed
+  find_stays failed opened none = unlogged call.Find (owner_at world k) 0 (record { kind = call.Open; owner = owner_at world k; failed = opened }) (with_call call.Find k failed world).calls refl ∙ find_failed failed none

@@ -1,0 +1,126 @@
+-- The steps of a client at a Writable event: each outcome of the one write, or of the read of the file before it.
+use Rattle.std.proofs.Common.{◌≡◌, ℕ, zero, suc, ◌≤◌, ◌<◌, List, [], ◌∷◌, ◌++◌, length, take, drop, Bool, true, false, nat_lt, nat_le, Option, Some, None, refl, sym, ◌∙◌, ap, subst, arith, take-append-drop, length-take}
+use Rattle.std.proofs.lemmas.List.{take-map}
+use Rattle.std.proofs.lemmas.Bool.Decides.{nat_tests}
+use Rattle.lt_world.specs.declared.net.Ending.TheVariants as ending
+use Rattle.lt_world.specs.Disk.{Disk, Table}
+use Rattle.lt_world.specs.Trace.{Act, Entry, Writing, NotYet, Failed, Wrote, Close}
+use Rattle.server_model.specs.Plan.{World, world_of}
+use Rattle.server_model.specs.Stream.{IsPrefix}
+use Rattle.server_model.specs.Deeds.{Deed, Ours, ours, told}
+use Rattle.server_model.specs.Client.{current, owed, owes}
+use Rattle.chunkqueue.specs.Items.{Item, Byte, FileByte, bytes_of, item_byte, Leads, Shows}
+use Rattle.server_model.specs.Held.{Held}
+use Rattle.server_model.specs.Steps.{number_of, took, staged, is_read_at}
+use Rattle.server_model.specs.Files.{Fits, Drops}
+use Rattle.server_model.specs.Serves.{Matches, Stands}
+use Rattle.server_model.specs.Due.{DueSettles, DueWrite, Settles, IsWriteAct, offer_limit, may_want_after_write}
+use Rattle.server_model.specs.Turns.{StepsBy}
+use Rattle.server_model.proofs.FileSteps.{same_files}
+use Rattle.server_model.proofs.Clients.{AnswersFirst, awaits, answers, answers_matches}
+use Rattle.server_model.proofs.Moves.{answers_took, answers_staged}
+use Rattle.server_model.proofs.Settled.{number_is, length-bytes_of, fails_right}
+use Rattle.server_model.proofs.Planned.{memory_bytes}
+use Rattle.server_model.proofs.Standing.{matches_right, stands_owed, stands_owes, stands_not_yet, stands_rests}
+use Rattle.server_model.proofs.Stepping.{step_none, step_closes, then_step}
+
+take_take : (n k : ℕ) (xs : List ℕ) → n ≤ k → take n (take k xs) ≡ take n xs
+take_take zero k xs le = refl
+take_take (suc n) zero xs le = absurd (omega (arith, le))
+take_take (suc n) (suc k) [] le = refl
+take_take (suc n) (suc k) (x ∷ xs) le = ap (λ l. x ∷ l) (take_take n k xs (omega (arith, le)))
+
+-- what can leave the queue now begins what is owed
+pub front_shows : (table : Table) (items : List Item) (staged front : List ℕ) → Leads items staged front → Shows table items staged → Shows table items front
+front_shows table [] staged front leads shows = subst (Shows table []) (sym leads) refl
+front_shows table (Byte b ∷ items) staged front leads shows = sym (memory_bytes table front) ∙ ap (bytes_of table) leads.1 ∙ sym (take-map (item_byte table) (length front) (Byte b ∷ items))
+front_shows table (FileByte file at ∷ items) staged front leads shows = subst (Shows table (FileByte file at ∷ items)) (sym leads) shows
+
+-- where something can leave, something is owed
+pub leads_some : (items : List Item) (staged front : List ℕ) → Leads items staged front → 1 ≤ length front → 0 < length items
+leads_some [] staged front leads some = absurd (omega (arith, some, ap length leads))
+leads_some (item ∷ items) staged front leads some = omega arith
+
+module _ (table : Table) (items : List Item) (front : List ℕ) (shows : Shows table items front) where
+  -- what is taken of it begins what is owed
+  pub front_taken : (n : ℕ) → n ≤ length front → take n front ≡ take n (bytes_of table items)
+  front_taken n le = ap (take n) shows ∙ take_take n (length front) (bytes_of table items) le
+
+  pub front_prefix : (n : ℕ) → n ≤ length front → IsPrefix (take n front) (bytes_of table items)
+  front_prefix n le = (drop n (bytes_of table items), ap (λ l. l ++ drop n (bytes_of table items)) (front_taken n le) ∙ take-append-drop n (bytes_of table items))
+
+  pub front_within : length front ≤ length (bytes_of table items)
+  front_within = omega (arith, ap length shows, length-take (length front) (bytes_of table items))
+
+some_owed : (world : World) (acts : List Act) (due : List ℕ) → owes world acts ≡ nat_lt 0 (length due) → 0 < length due → owes world acts ≡ true
+some_owed world acts due is some = let yes : nat_lt 0 (length due) ≡ true = grind (arith, nat_tests, some) in is ∙ yes
+
+-- something is owed to it
+pub answers_some : (opened : Table) (world : World) (held : Held) (acts : List Act) → Matches opened world held acts → 0 < length held.owed → AnswersFirst opened world held acts
+answers_some opened world held acts m some = by (is_read_at held.stage) refl
+  where
+    by : (t : Bool) → is_read_at held.stage ≡ t → AnswersFirst opened world held acts
+    by true is = let a = awaits opened world held acts m is in absurd (omega (arith, some, ap length a.owed))
+    by false is = answers opened world held acts m is
+
+module _ (failed : ℕ → Type 0) (root : List ℕ) (held : Held) (net files : Type 0) (before : Disk) where
+  -- nothing is owed
+  pub write_idle : (old : List Entry) → held.owed ≡ [] → (files → Fits before.table held) → StepsBy Stands (DueWrite failed) root held (Some held) net files before before old old
+  write_idle old none fits = step_none Stands (DueWrite failed) root held net files before before old old fits
+      (λ f past s. (s, DueWrite.idle (stands_owes before.table (world_of root before held.link) held (ours past) s ∙ ap (λ (l : List Item). nat_lt 0 (length (bytes_of before.table l))) none)))
+
+  owing : (past : List Deed) → 0 < length held.owed → Stands before.table (world_of root before held.link) held (ours past) → owes (world_of root before held.link) (ours past) ≡ true
+  owing past some s = some_owed (world_of root before held.link) (ours past) (bytes_of before.table held.owed) (stands_owes before.table (world_of root before held.link) held (ours past) s) (omega (arith, some, length-bytes_of before.table held.owed))
+
+  -- the read of the file failed
+  pub write_faults : (after : Disk) (old now : List Entry) → 0 < length held.owed → failed (number_of held.stage) → (net → now ≡ told held.link (Ours (Close ending.FileFault) ∷ []) old) → (files → Drops held.file before after) → StepsBy Stands (DueWrite failed) root held None net files before after old now
+  write_faults after old now some fault gains dropped = step_closes Stands (DueWrite failed) root held net files before after old now ending.FileFault [] tt gains dropped
+      (λ f past s.
+      let a = answers_some before.table (world_of root before held.link) held (ours past) s.matches some in
+      let same : number_of held.stage ≡ (current (world_of root before held.link) (ours past)).number = ap number_of a.stage ∙ sym (number_is (world_of root before held.link) (ours past)) in
+      (matches_right before.table (world_of root before held.link) held (ours past) s.matches, (λ e. absurd (cc (e))), DueWrite.faults (owing past some s) (subst failed same fault)))
+
+  module _ (old now : List Entry) (front : List ℕ) (leads : Leads held.owed held.staged front) (some : 1 ≤ length front) (most : length front ≤ offer_limit) where
+    pub some_first : 0 < length held.owed
+    some_first = leads_some held.owed held.staged front leads some
+
+    shown : (past : List Deed) → Stands before.table (world_of root before held.link) held (ours past) → Shows before.table held.owed front
+    shown past s = front_shows before.table held.owed held.staged front leads (answers_some before.table (world_of root before held.link) held (ours past) s.matches some_first).shows
+
+    pub write_not_yet : (net → now ≡ told held.link (Ours (NotYet Writing) ∷ []) old) → (files → Fits before.table held) → StepsBy Stands (DueWrite failed) root held (Some held) net files before before old now
+    write_not_yet gains fits = then_step Stands Stands (DueWrite failed) (DueSettles false) root held held (Some held) net files before before before old now now (Ours (NotYet Writing) ∷ []) (refl, tt) gains (λ f. same_files held.link before held.file) refl
+        (λ f past s. stands_not_yet before.table (world_of root before held.link) held (ours past) Writing s)
+        (λ f past all s settles. DueWrite.writes (NotYet Writing) (owing past some_first s) tt settles)
+        (step_none Stands (DueSettles false) root held net files before before now now fits (λ f past s. (s, Settles.rests (stands_rests before.table (world_of root before held.link) held past s))))
+
+    pub write_failed : (after : Disk) → (net → now ≡ told held.link (Ours (Close ending.ClientFault) ∷ Ours (Failed Writing) ∷ []) old) → (files → Drops held.file before after) → StepsBy Stands (DueWrite failed) root held None net files before after old now
+    write_failed after gains dropped = step_closes Stands (DueWrite failed) root held net files before after old now ending.ClientFault (Ours (Failed Writing) ∷ []) (refl, tt) gains dropped
+        (λ f past s. (
+          fails_right (world_of root before held.link) (ours past) Writing (matches_right before.table (world_of root before held.link) held (ours past) s.matches),
+          (λ e. absurd (cc (e))),
+          DueWrite.writes (Failed Writing) (owing past some_first s) tt (Settles.fails refl),
+        ))
+
+    -- it took some bytes, and then what follows
+    pub write_then : (after : Disk) (then : List Entry) (next : Option Held) (n : ℕ) → n ≤ length front → (net → then ≡ told held.link (Ours (Wrote (length front) (take n front)) ∷ []) old)
+        → StepsBy Matches (DueSettles (nat_le (length held.owed) (length (take n front)))) root (took held n) next net files before after then now → StepsBy Stands (DueWrite failed) root held next net files before after old now
+    write_then after then next n le gains step = then_step Stands Matches (DueWrite failed) (DueSettles (nat_le (length held.owed) (length (take n front)))) root held (took held n) next net files before before after old then now
+        (Ours (Wrote (length front) (take n front)) ∷ []) (refl, tt) gains (λ f. same_files held.link before held.file) refl
+        (λ f past s. answers_matches before.table (world_of root before held.link) (took held n) (Wrote (length front) (take n front) ∷ ours past)
+        (answers_took before.table (world_of root before held.link) held (ours past) (answers_some before.table (world_of root before held.link) held (ours past) s.matches some_first) n (length front) (take n front) (front_taken before.table held.owed front (shown past s) n le)))
+        (λ f past all s settles.
+        let due : owed (world_of root before held.link) (ours past) ≡ bytes_of before.table held.owed = stands_owed before.table (world_of root before held.link) held (ours past) s in
+        let act : IsWriteAct (owed (world_of root before held.link) (ours past)) (Wrote (length front) (take n front)) = subst (λ (d : List ℕ). IsWriteAct d (Wrote (length front) (take n front))) (sym due) (some, most, front_within before.table held.owed front (shown past s), front_prefix before.table held.owed front (shown past s) n le) in
+        let may : nat_le (length held.owed) (length (take n front)) ≡ may_want_after_write (owed (world_of root before held.link) (ours past)) (Wrote (length front) (take n front)) =
+        ap (λ (k : ℕ). nat_le k (length (take n front))) (sym (length-bytes_of before.table held.owed)) ∙ ap (λ (d : List ℕ). nat_le (length d) (length (take n front))) (sym due) in
+        DueWrite.writes (Wrote (length front) (take n front)) (owing past some_first s) act (subst (λ (b : Bool). Settles (world_of root after held.link) b (Ours (Wrote (length front) (take n front)) ∷ past) all) may settles))
+        step
+
+  -- the front was read from its file, and then what follows
+  pub staged_then : (bytes : List ℕ) (next : Option Held) (after : Disk) (old now : List Entry) → 0 < length held.owed → (files → Shows before.table held.owed held.staged → Shows before.table held.owed bytes)
+      → StepsBy Stands (DueWrite failed) root (staged held bytes) next net files before after old now → StepsBy Stands (DueWrite failed) root held next net files before after old now
+  staged_then bytes next after old now some reads step = then_step Stands Stands (DueWrite failed) (DueWrite failed) root held (staged held bytes) next net files before before after old old now [] tt (λ n. refl) (λ f. same_files held.link before held.file) refl
+      (λ f past s.
+      let a = answers_some before.table (world_of root before held.link) held (ours past) s.matches some in
+      record { matches = answers_matches before.table (world_of root before held.link) (staged held bytes) (ours past) (answers_staged before.table (world_of root before held.link) held (ours past) a bytes (reads f a.shows)); waiting = s.waiting; unfinished = s.unfinished })
+      (λ f past all s d. d) step

@@ -1,0 +1,79 @@
+-- What must follow an event, by the deeds of its client up to it.
+use Rattle.std.specs.Prelude.{◌≡◌, ℕ, ◌≤◌, List, ◌∷◌, Bool, true, false, length, nat_le}
+use Rattle.lt_world.specs.declared.net.Address.{Address}
+use Rattle.lt_world.specs.declared.net.Ending.TheVariants as ending
+use Rattle.lt_world.specs.Trace.{Act, Reading, Writing, Accepted, Readable, Writable, Read, ReadEnd, NotYet, Failed, Wrote, Close}
+use Rattle.server_model.specs.Plan.{World}
+use Rattle.server_model.specs.Stream.{IsPrefix}
+use Rattle.server_model.specs.Deeds.{Deed, Ours, ours}
+use Rattle.server_model.specs.Client.{has_failed, is_open, current, owed, wants, owes, IsFinished}
+
+-- bytes that one write offers, at most
+abbrev pub offer_limit : ℕ
+offer_limit = 4096
+
+-- nothing is left to do for a client that is open
+pub record Rests (world : World) (deeds : List Deed) : Type 0 where
+  pub is_open : is_open (ours deeds) ≡ true
+  pub sound : has_failed (ours deeds) ≡ false
+  pub unfinished : IsFinished world (ours deeds) → ⊥
+
+-- what follows without a further event, up to where nothing is left to do; `may` says that memory may be wanted
+pub data Settles (world : World) (may : Bool) : List Deed → List Deed → Type 0 where
+  rests : {now : List Deed} → Rests world now → Settles world may now now
+  finishes : {now : List Deed} → IsFinished world (ours now) → has_failed (ours now) ≡ false → Settles world may now (Ours (Close ending.Clean) ∷ now)
+  fails : {now : List Deed} → has_failed (ours now) ≡ true → Settles world may now (Ours (Close ending.ClientFault) ∷ now)
+  yields : {now : List Deed} → may ≡ true → Settles world may now (Ours (Close ending.NoMemory) ∷ now)
+
+-- the same by the world before and after it
+abbrev pub DueSettles : Bool → World → World → List Deed → List Deed → Type 0
+DueSettles may before after past now = Settles after may past now
+
+abbrev pub IsReadAct : Act → Type 0
+IsReadAct (Read bytes) = Unit {0}
+IsReadAct ReadEnd = Unit {0}
+IsReadAct (NotYet Reading) = Unit {0}
+IsReadAct (Failed Reading) = Unit {0}
+IsReadAct act = ⊥
+
+-- a write of bytes of these
+abbrev pub IsWriteAct : List ℕ → Act → Type 0
+IsWriteAct due (Wrote offered bytes) = (1 ≤ offered) × (offered ≤ offer_limit) × (offered ≤ length due) × IsPrefix bytes due
+IsWriteAct due (NotYet Writing) = Unit {0}
+IsWriteAct due (Failed Writing) = Unit {0}
+IsWriteAct due act = ⊥
+
+-- memory may be wanted after bytes or their end came
+abbrev pub may_want_after_read : Act → Bool
+may_want_after_read (Read bytes) = true
+may_want_after_read ReadEnd = true
+may_want_after_read act = false
+
+-- and after a write that took all that was owed
+abbrev pub may_want_after_write : List ℕ → Act → Bool
+may_want_after_write due (Wrote offered bytes) = nat_le (length due) (length bytes)
+may_want_after_write due act = false
+
+-- a client that arrives may be refused for want of memory
+pub data DueArrival (peer local : Address) (past : List Deed) : List Deed → Type 0 where
+  comes : DueArrival peer local past (Ours (Accepted peer local) ∷ past)
+  refused : DueArrival peer local past (Ours (Close ending.NoMemory) ∷ Ours (Accepted peer local) ∷ past)
+
+-- exactly one read where the client wants one, else nothing; the world before and after the turn
+pub data DueRead (before after : World) (past : List Deed) : List Deed → Type 0 where
+  idle : wants before (ours past) ≡ false → DueRead before after past past
+  reads : {now : List Deed} (act : Act) → wants before (ours past) ≡ true → IsReadAct act → Settles after (may_want_after_read act) (Ours act ∷ past) now → DueRead before after past now
+
+-- exactly one write where something is owed, or the failed read of the file in its place; else nothing
+pub data DueWrite (failed : ℕ → Type 0) (before after : World) (past : List Deed) : List Deed → Type 0 where
+  idle : owes before (ours past) ≡ false → DueWrite failed before after past past
+  writes : {now : List Deed} (act : Act) → owes before (ours past) ≡ true → IsWriteAct (owed before (ours past)) act
+      → Settles after (may_want_after_write (owed before (ours past)) act) (Ours act ∷ past) now → DueWrite failed before after past now
+  faults : owes before (ours past) ≡ true → failed (current before (ours past)).number → DueWrite failed before after past (Ours (Close ending.FileFault) ∷ past)
+
+-- what must follow an event of a client; `failed` says for which request a read of a file failed in this turn
+abbrev pub Due : Act → (ℕ → Type 0) → World → World → List Deed → List Deed → Type 0
+Due (Accepted peer local) failed before after past now = DueArrival peer local past now
+Due Readable failed before after past now = DueRead before after past now
+Due Writable failed before after past now = DueWrite failed before after past now
+Due act failed before after past now = ⊥

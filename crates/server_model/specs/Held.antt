@@ -1,0 +1,46 @@
+-- What a server keeps.
+use Rattle.std.specs.Prelude.{◌≡◌, ℕ, ◌<◌, length, List, [], ◌∷◌, get_or, Bool, Option, Some, None, ◌==◌, if◌then◌else◌}
+use Rattle.lt_world.specs.declared.net.Address.{Address}
+use Rattle.chunkqueue.specs.Items.{Item}
+
+pub data Stage : Type 0 where
+  -- request k isn't answered yet
+  Awaiting : ℕ → Stage
+  -- reply k was given, and is the last or not
+  Answering : ℕ → Bool → Stage
+
+-- what is kept for one open client
+pub record Held : Type 0 where
+  pub link : ℕ
+  pub peer : Address
+  pub local : Address
+  -- what came, and belongs to no request that was answered
+  pub input : List ℕ
+  pub stage : Stage
+  -- what is owed of the current reply
+  pub owed : List Item
+  -- the first of these bytes that were read from the file
+  pub staged : List ℕ
+  -- the opened file that the reply comes from
+  pub file : Option ℕ
+  pub ended : Bool
+
+-- what a server keeps: the document root, and the clients that are open
+pub record Serving : Type 0 where
+  pub root : List ℕ
+  pub table : List Held
+
+-- what is kept for this link
+abbrev pub kept_at : ℕ → List Held → Option Held
+kept_at link [] = None
+kept_at link (held ∷ table) = if held.link == link then Some held else kept_at link table
+
+-- each link is kept once
+abbrev pub IsEachOnce : List Held → Type 0
+IsEachOnce [] = Unit {0}
+IsEachOnce (held ∷ table) = (kept_at held.link table ≡ None) × IsEachOnce table
+
+-- the place of a link in the table, where it has one
+abbrev pub IsPlace : ℕ → List Held → Option ℕ → Type 0
+IsPlace link table None = kept_at link table ≡ None
+IsPlace link table (Some i) = (i < length table) × ((other : Held) → (get_or table i other).link ≡ link)

@@ -1,0 +1,14 @@
+pub mod Request
+pub mod Plan
+pub mod Reply
+pub mod Stream
+pub mod Deeds
+pub mod Client
+pub mod Held
+pub mod Steps
+pub mod Files
+pub mod Planning
+pub mod Serves
+pub mod Due
+pub mod Turns
+pub mod Runs

@@ -1,0 +1,14 @@
+-- A whole run: turns one after another.
+use Rattle.std.specs.Prelude.{ℕ, List}
+use Rattle.lt_world.specs.Trace.{Entry}
+use Rattle.server_model.specs.Turns.{Seen, IsTurn}
+
+-- what net and files tell at one time
+pub record Told : Type 0 where
+  pub seen : Seen
+  pub trace : List Entry
+
+-- what the trace gained is a list of events, each followed by what is due for it
+pub data IsRun (root : List ℕ) : Told → Told → Type 0 where
+  none : {told : Told} → IsRun root told told
+  more : {before now after : Told} → IsRun root before now → IsTurn root now.seen after.seen now.trace after.trace → IsRun root before after

@@ -1,0 +1,75 @@
+-- One turn: an event, and what is done for each client that it concerns.
+use Rattle.std.specs.Prelude.{◌≡◌, ℕ, List, [], ◌∷◌, ◌++◌, false, Option, Some}
+use Rattle.lt_world.specs.declared.net.Owner.{Owner}
+use Rattle.lt_world.specs.Causes.{Rose}
+use Rattle.lt_world.specs.Disk.{Disk, Table}
+use Rattle.lt_world.specs.Trace.{Act, Entry, Accepted, names}
+use Rattle.server_model.specs.Plan.{World, world_of}
+use Rattle.server_model.specs.Deeds.{Deed, own, ours, told, AreDeeds}
+use Rattle.server_model.specs.Held.{Held, Serving}
+use Rattle.server_model.specs.Files.{file_of, FitsFor, FileStep}
+use Rattle.server_model.specs.Serves.{StandsFor, Serves}
+use Rattle.server_model.specs.Due.{Due}
+
+-- what files tell at one time
+pub record Seen : Type 0 where
+  pub disk : Disk
+  pub faults : ℕ
+  -- the owner of the last read that failed
+  pub failed_read : Option Owner
+
+-- a read failed for this request of a client: the count rose, and this was the owner
+pub record ReadFailed (client number : ℕ) (before after : Seen) : Type 0 where
+  pub rose : Rose before.faults after.faults
+  pub owner : Owner
+  pub is : after.failed_read ≡ Some owner
+  pub conn : owner.conn ≡ client
+  pub request : owner.request ≡ number
+
+-- what is done for one client
+pub record Part : Type 0 where
+  pub client : ℕ
+  pub deeds : List Deed
+
+-- these parts, on top of a trace
+abbrev pub all_told : List Part → List Entry → List Entry
+all_told [] trace = trace
+all_told (p ∷ parts) trace = told p.client p.deeds (all_told parts trace)
+
+-- what is due for the client of a link
+abbrev pub DueFor : List ℕ → Act → ℕ → Seen → Seen → List Entry → List Entry → Type 0
+DueFor root event client before after old now = Due event (λ k. ReadFailed client k before after) (world_of root before.disk client) (world_of root after.disk client) (own client old) (own client now)
+
+-- an event of a link concerns its client alone
+abbrev pub DueParts : List ℕ → Act → ℕ → List Part → Seen → Seen → List Entry → List Entry → Type 0
+DueParts root event link [] before after old now = ⊥
+DueParts root event link (p ∷ []) before after old now = (p.client ≡ link) × AreDeeds p.deeds × DueFor root event p.client before after old now
+DueParts root event link (p ∷ q ∷ parts) before after old now = ⊥
+
+-- a trace gains an event of a link, and what is due for it
+pub record IsTurn (root : List ℕ) (before after : Seen) (old now : List Entry) : Type 0 where
+  pub link : ℕ
+  pub event : Act
+  pub parts : List Part
+  pub gains : now ≡ all_told parts (record { link = link; act = event } ∷ old)
+  pub due : DueParts root event link parts before after old now
+
+-- one client that is kept, in a state that `From` names, goes on by some deeds, as is due, whatever its past
+pub record StepsBy (From : Table → World → Held → List Act → Type 0) (due : World → World → List Deed → List Deed → Type 0) (root : List ℕ) (held : Held) (next : Option Held) (net files : Type 0) (before after : Disk) (old now : List Entry) : Type 0 where
+  pub deeds : List Deed
+  pub are : AreDeeds deeds
+  pub gains : net → now ≡ told held.link deeds old
+  pub does : files → FileStep held.link held.file (file_of next) before after
+  pub fits : files → FitsFor after.table next
+  pub keeps : files → (past : List Deed) → From before.table (world_of root before held.link) held (ours past)
+      → StandsFor after.table (world_of root after held.link) next (deeds ++ past) × due (world_of root before held.link) (world_of root after held.link) past (deeds ++ past)
+
+-- a link that arrives was never named
+abbrev pub IsNew : Act → ℕ → List Entry → Type 0
+IsNew (Accepted peer local) link trace = names link trace ≡ false
+IsNew event link trace = Unit {0}
+
+-- the server goes on after an event of a link
+abbrev pub TurnsOn : Act → ℕ → Serving → Serving → Type 0 → Type 0 → Seen → Seen → List Entry → List Entry → Type 0
+TurnsOn event link server next net files before after old now = net → files → (trace : List Entry) → old ≡ record { link = link; act = event } ∷ trace → IsNew event link trace
+    → Serves before.disk server trace → Serves after.disk next now × IsTurn server.root before after trace now
