@@ -11,7 +11,6 @@ use Rattle.lt_script.specs.declared.lines.Line.TheVariants.{Skip, File, Step}
 use Rattle.lt_script.specs.Fields.{digits_len, number_at, name_at, address_at, octet_at, end_at}
 use Rattle.lt_script.specs.Lines.{line_of, accept_of, data_of, end_of, take_of, file_of, fill_of}
 use Rattle.lt_script.specs.Grammar.{name_text, IsName, address_text, IsAddress, IsLine, IsAccept, IsData, IsEnd, IsTake, IsFile, IsFill}
-use Rattle.lt_script.proofs.Fronts.{rooted_test}
 use Rattle.lt_script.proofs.Numbers.{number_again, last_number}
 use Rattle.lt_script.proofs.Quoted.{quoted_again}
 
@@ -79,14 +78,14 @@ unfolding line_of file_of
 file_again path time text bytes line =
     rw line.spelled (rw (quoted_again path line.named (codes " " ++ (decimal time ++ (codes " \"" ++ (line.quoted ++ codes "\"")))) line.is_named)
     (rw (number_again 0 MOST_TIME time (codes " \"" ++ (line.quoted ++ codes "\"")) (omega arith) line.dated (omega arith) refl)
-    (rw (quoted_again text line.quoted [] line.is_quoted) (rw (rooted_test path line.rooted) refl))))
+    (rw (quoted_again text line.quoted [] line.is_quoted) (rw line.rooted refl))))
 
 fill_again : (path : List ℕ) (time size : ℕ) (bytes : List ℕ) → IsFill path time size bytes → line_of bytes ≡ Some (File (file.Fill path time size))
 unfolding line_of fill_of
 fill_again path time size bytes line =
     rw line.spelled (rw (quoted_again path line.named (codes " " ++ (decimal time ++ (codes " " ++ decimal size))) line.is_named)
     (rw (number_again 0 MOST_TIME time (codes " " ++ decimal size) (omega arith) line.dated (omega arith) refl)
-    (rw (last_number 0 MOST_FILL size (omega arith) line.sized (omega arith)) (rw (rooted_test path line.rooted) refl))))
+    (rw (last_number 0 MOST_FILL size (omega arith) line.sized (omega arith)) (rw line.rooted refl))))
 
 pub line_again : (line : Line) (bytes : List ℕ) → IsLine line bytes → line_of bytes ≡ Some line
 unfolding line_of

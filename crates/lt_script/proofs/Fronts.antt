@@ -4,9 +4,8 @@ use Rattle.std.proofs.Common.{◌≡◌, ℕ, suc, ◌-◌, ◌<◌, not, get_or
 use Rattle.std.proofs.lemmas.Bool.Decides.{nat_tests}
 use Rattle.std.specs.Option.{option_copied}
 use Rattle.lt_world.specs.Disk.{ends_in_slash}
-use Rattle.lt_world.specs.Memory.{IsPath}
+use Rattle.lt_world.specs.Memory.{is_path}
 use Rattle.lt_script.specs.Fields.{after}
-use Rattle.lt_script.specs.Lines.{is_path}
 
 -- what is left where the front is there
 abbrev behind : List ℕ → List ℕ → Bool → Option (List ℕ)
@@ -48,21 +47,7 @@ stripped front bytes (Some x) strip = let r : x.now ≡ drop (length front) byte
 
 -- a path by its test
 
-rooted_by : (begins ends : Bool) (byte : ℕ) (path : List ℕ) → (byte == 47) ≡ begins → ends_in_slash (byte ∷ path) ≡ ends → (begins && not ends) ≡ true → IsPath (byte ∷ path)
-rooted_by false ends byte path b e is = absurd (cc is)
-rooted_by true true byte path b e is = absurd (cc is)
-rooted_by true false byte path b e is = let same : byte ≡ 47 = grind (arith, nat_tests, b) in record { begins = (path, ap (λ c. c ∷ path) same); ends = e }
-
-pub rooted : (path : List ℕ) → is_path path ≡ true → IsPath path
-rooted [] is = absurd (cc is)
-rooted (byte ∷ path) is = rooted_by (byte == 47) (ends_in_slash (byte ∷ path)) byte path refl refl is
-
-pub rooted_test : (path : List ℕ) → IsPath path → is_path path ≡ true
-rooted_test path is =
-    let whole : ends_in_slash (47 ∷ is.begins.0) ≡ false = ap ends_in_slash (sym is.begins.1) ∙ is.ends in
-    ap is_path is.begins.1 ∙ ap not whole
-
-pub last_slash : (path : List ℕ) → 0 < length path → ends_in_slash path ≡ (get_or path (length path - 1) 0 == 47)
+last_slash : (path : List ℕ) → 0 < length path → ends_in_slash path ≡ (get_or path (length path - 1) 0 == 47)
 last_slash [] some = absurd (omega arith)
 last_slash (byte ∷ []) some = refl
 last_slash (byte ∷ next ∷ path) some =

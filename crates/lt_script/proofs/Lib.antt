@@ -10,3 +10,4 @@ pub mod Telling
 pub mod Becoming
 pub mod Turning
 pub mod Loading
+pub mod Pieces

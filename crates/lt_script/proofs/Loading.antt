@@ -1,6 +1,6 @@
 -- What a script that is spelled is loaded with.
-use Rattle.std.proofs.Common.{◌≡◌, ℕ, zero, suc, ◌<◌, List, [], ◌∷◌, length, drop, get_or, refl, ap, sym, subst, arith}
-use Rattle.lt_world.specs.Memory.{IsPath}
+use Rattle.std.proofs.Common.{◌≡◌, ℕ, true, zero, suc, ◌<◌, List, [], ◌∷◌, length, drop, get_or, refl, ap, sym, subst, arith}
+use Rattle.lt_world.specs.Memory.{is_path}
 use Rattle.lt_script.specs.declared.script.Script.{Script}
 use Rattle.lt_script.specs.declared.script.ScriptFile.{ScriptFile}
 use Rattle.lt_script.specs.declared.script.ScriptFile.TheVariants as file
@@ -14,11 +14,11 @@ use Rattle.lt_script.specs.Steps.{rest_of}
 use Rattle.lt_script.specs.Playing.{Playing, unplayed}
 use Rattle.lt_script.proofs.Turning.{rest_none}
 
-rooted_file : (f : ScriptFile) (line : List ℕ) → IsLine (File f) line → IsPath (path_of f)
+rooted_file : (f : ScriptFile) (line : List ℕ) → IsLine (File f) line → is_path (path_of f) ≡ true
 rooted_file (file.Bytes path time text) line is = is.rooted
 rooted_file (file.Fill path time size) line is = is.rooted
 
-rooted_more : (f : ScriptFile) (files : List ScriptFile) → IsPath (path_of f) → AreRooted files → AreRooted (f ∷ files)
+rooted_more : (f : ScriptFile) (files : List ScriptFile) → is_path (path_of f) ≡ true → AreRooted files → AreRooted (f ∷ files)
 rooted_more f files here rest zero other below = here
 rooted_more f files here rest (suc k) other below = rest k other (omega arith)
 

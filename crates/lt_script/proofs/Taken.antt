@@ -3,6 +3,7 @@ use Rattle.std.proofs.Common.{◌≡◌, ℕ, suc, zero, ◌≤◌, Bool, true, 
 use Rattle.std.specs.Fmt.{decimal}
 use Rattle.std.proofs.lemmas.Option.{same_Some}
 use Rattle.lt_world.specs.declared.net.Address.{Address}
+use Rattle.lt_world.specs.Memory.{is_path}
 use Rattle.lt_script.specs.declared.script.Name.{Name}
 use Rattle.lt_script.specs.declared.script.Step.TheVariants as step
 use Rattle.lt_script.specs.declared.script.ScriptFile.TheVariants as file
@@ -12,9 +13,9 @@ use Rattle.lt_script.specs.declared.lines.Line.TheVariants.{Skip, File, Step}
 use Rattle.lt_script.specs.declared.quoting.State.TheVariants.{Plain}
 use Rattle.lt_script.specs.Quoting.{unquote}
 use Rattle.lt_script.specs.Fields.{number_at, name_at, address_at, octet_at, end_at, after}
-use Rattle.lt_script.specs.Lines.{line_of, ended, is_path, on, accept_of, data_of, end_of, take_of, file_of, fill_of}
+use Rattle.lt_script.specs.Lines.{line_of, ended, on, accept_of, data_of, end_of, take_of, file_of, fill_of}
 use Rattle.lt_script.specs.Grammar.{name_text, IsName, address_text, IsAddress, IsLine}
-use Rattle.lt_script.proofs.Fronts.{after_takes, rooted}
+use Rattle.lt_script.proofs.Fronts.{after_takes}
 use Rattle.lt_script.proofs.Numbers.{ReadsNumber, number_takes}
 use Rattle.lt_script.proofs.Quoted.{quoted_takes}
 
@@ -197,7 +198,7 @@ file_takes bytes said some =
     subst (λ (l : Line). IsLine l (codes "file \"" ++ bytes)) e.1 (record {
       named = w0.0;
       quoted = w4.0;
-      rooted = rooted v0.0.0 path.0;
+      rooted = path.0;
       is_named = w0.1;
       dated = w2.high;
       is_quoted = w4.1;
@@ -221,7 +222,7 @@ fill_takes bytes said some =
     let e = ended_takes v4.0.1 (File (file.Fill v0.0.0 v2.0.0 v4.0.0)) said path.1 in
     subst (λ (l : Line). IsLine l (codes "fill \"" ++ bytes)) e.1 (record {
       named = w0.0;
-      rooted = rooted v0.0.0 path.0;
+      rooted = path.0;
       is_named = w0.1;
       dated = w2.high;
       sized = w4.high;

@@ -127,22 +127,20 @@ step_uses (step.Bytes name bytes) rest links = omega arith
 step_uses (step.End name) rest links = omega arith
 step_uses (step.Take name size count) rest links = lowers name size count rest
 
-uses_more : (event : Event) (few many now : ℕ) → few ≤ many → UsesEvent event few now → UsesEvent event many now
-uses_more (Arrived link peer local) few many now more uses = omega arith
-uses_more (Readable link) few many now more uses = omega arith
-uses_more (Writable link) few many now more uses = omega arith
-uses_more Idle few many now more uses = omega arith
-uses_more Over few many now more uses = uses
-uses_more NoMemory few many now more uses = omega arith
+uses_more : (first : Step) (links few many now : ℕ) → few ≤ many → UsesEvent (event_of first links) few now → UsesEvent (event_of first links) many now
+uses_more (step.Accept peer local) links few many now more uses = omega arith
+uses_more (step.Bytes name bytes) links few many now more uses = omega arith
+uses_more (step.End name) links few many now more uses = omega arith
+uses_more (step.Take name size count) links few many now more uses = omega arith
 
-begin_uses : (steps : List Step) (game : Game) → UsesEvent (answer_of steps game.sides) (events_left steps) (events_left (begin steps game).left)
-begin_uses [] game = refl
-begin_uses (first ∷ rest) game = step_uses first rest (length game.sides)
+begin_uses : (steps : List Step) (game : Game) (many : ℕ) → events_left steps ≤ many → UsesEvent (answer_of steps game.sides) many (events_left (begin steps game).left)
+begin_uses [] game many more = refl
+begin_uses (first ∷ rest) game many more = uses_more first (length game.sides) _ _ _ more (step_uses first rest (length game.sides))
 
 pub turned_left : (event : Event) (old new : Game) → Turns event old new → UsesEvent event (events_left old.left) (events_left new.left)
 turned_left event old new turns =
-    turned (λ e a b. UsesEvent e (events_left a.left) (events_left b.left)) event old new (λ a. le_refl (events_left a.left))
-    (λ a. uses_more (answer_of (skip a.sides a.left) a.sides) _ _ _ (skip_left a.sides a.left) (begin_uses (skip a.sides a.left) a)) turns
+    turned (λ e a b. UsesEvent e (events_left a.left) (events_left b.left)) event old new (λ a. refl)
+    (λ a. begin_uses (skip a.sides a.left) a (events_left a.left) (skip_left a.sides a.left)) turns
 
 -- links are numbered upwards
 

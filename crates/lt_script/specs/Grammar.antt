@@ -1,9 +1,9 @@
 -- The grammar of a script's lines: for each thing that a line can say, the bytes that say it.
-use Rattle.std.specs.Prelude.{◌≡◌, ◌≢◌, ℕ, ◌+◌, ◌*◌, ◌<◌, ◌≤◌, false, List, [], ◌∷◌, ◌++◌, length, get_or, ◌⊎◌, codes}
+use Rattle.std.specs.Prelude.{◌≡◌, ◌≢◌, ℕ, ◌+◌, ◌*◌, ◌<◌, ◌≤◌, true, false, List, [], ◌∷◌, ◌++◌, length, get_or, ◌⊎◌, codes}
 use Rattle.std.specs.Char.{digit_char}
 use Rattle.std.specs.Fmt.{decimal}
 use Rattle.lt_world.specs.declared.net.Address.{Address}
-use Rattle.lt_world.specs.Memory.{IsPath}
+use Rattle.lt_world.specs.Memory.{is_path}
 use Rattle.lt_script.specs.declared.script.Name.{Name}
 use Rattle.lt_script.specs.declared.script.Step.TheVariants as step
 use Rattle.lt_script.specs.declared.script.ScriptFile.TheVariants as file
@@ -67,7 +67,7 @@ pub record IsTake (link : Name) (size count : ℕ) (bytes : List ℕ) : Type 0 w
 pub record IsFile (path : List ℕ) (time : ℕ) (text bytes : List ℕ) : Type 0 where
   pub named : List ℕ
   pub quoted : List ℕ
-  pub rooted : IsPath path
+  pub rooted : is_path path ≡ true
   pub is_named : IsQuoted path named
   pub dated : time ≤ MOST_TIME
   pub is_quoted : IsQuoted text quoted
@@ -75,7 +75,7 @@ pub record IsFile (path : List ℕ) (time : ℕ) (text bytes : List ℕ) : Type 
 
 pub record IsFill (path : List ℕ) (time size : ℕ) (bytes : List ℕ) : Type 0 where
   pub named : List ℕ
-  pub rooted : IsPath path
+  pub rooted : is_path path ≡ true
   pub is_named : IsQuoted path named
   pub dated : time ≤ MOST_TIME
   pub sized : size ≤ MOST_FILL

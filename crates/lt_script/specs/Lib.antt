@@ -19,3 +19,4 @@ pub mod Notes
 pub mod NetView
 pub mod Later
 pub mod Loads
+pub mod Reports

@@ -1,6 +1,6 @@
 -- How the lines of a script are read.
-use Rattle.std.specs.Prelude.{ℕ, Bool, false, ◌&&◌, not, List, [], ◌∷◌, Option, Some, None, if◌then◌else◌, ◌==◌, codes}
-use Rattle.lt_world.specs.Disk.{ends_in_slash}
+use Rattle.std.specs.Prelude.{ℕ, List, [], ◌∷◌, Option, Some, None, if◌then◌else◌, codes}
+use Rattle.lt_world.specs.Memory.{is_path}
 use Rattle.lt_script.specs.declared.script.Step.TheVariants as step
 use Rattle.lt_script.specs.declared.script.ScriptFile.TheVariants as file
 use Rattle.lt_script.specs.declared.script.TheConstants.{MOST_TIME, MOST_FILL, MOST_TAKE, MOST_COUNT}
@@ -15,14 +15,6 @@ use Rattle.lt_script.specs.Quoting.{unquote}
 abbrev pub ended : List ℕ → Line → Option Line
 ended [] line = Some line
 ended (b ∷ bytes) line = None
-
-abbrev pub begins_in_slash : List ℕ → Bool
-begins_in_slash [] = false
-begins_in_slash (byte ∷ path) = byte == 47
-
--- a path begins with a slash and doesn't end with one
-abbrev pub is_path : List ℕ → Bool
-is_path text = begins_in_slash text && not (ends_in_slash text)
 
 abbrev pub if_path : List ℕ → Option Line → Option Line
 if_path text line = if is_path text then line else None

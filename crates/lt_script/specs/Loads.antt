@@ -1,7 +1,7 @@
 -- What the files of a script make of a tree.
-use Rattle.std.specs.Prelude.{ℕ, zero, suc, ◌+◌, ◌<◌, ◌%◌, List, [], ◌∷◌, ◌++◌, length, get_or}
+use Rattle.std.specs.Prelude.{◌≡◌, ℕ, true, zero, suc, ◌+◌, ◌<◌, ◌%◌, List, [], ◌∷◌, ◌++◌, length, get_or}
 use Rattle.lt_world.specs.Disk.{Tree}
-use Rattle.lt_world.specs.Memory.{with_file_at, IsPath}
+use Rattle.lt_world.specs.Memory.{with_file_at, is_path}
 use Rattle.lt_script.specs.declared.script.ScriptFile.{ScriptFile}
 use Rattle.lt_script.specs.declared.script.ScriptFile.TheVariants as file
 
@@ -25,4 +25,4 @@ planted (file ∷ files) tree = planted files (with_file file tree)
 
 -- each file has a path that begins with a slash and doesn't end with one
 abbrev pub AreRooted : List ScriptFile → Type 0
-AreRooted files = (k : ℕ) (other : ScriptFile) → k < length files → IsPath (path_of (get_or files k other))
+AreRooted files = (k : ℕ) (other : ScriptFile) → k < length files → is_path (path_of (get_or files k other)) ≡ true

@@ -13,9 +13,11 @@ mod parse;
 mod port;
 mod ports;
 mod quoting;
+mod reporting;
 mod script;
 mod steps;
+mod writing;
 
-pub use net::ScriptNet;
+pub use net::{ScriptNet, report};
 pub use parse::parse_script;
 pub use script::{Name, Script, ScriptError, ScriptFile, Step};

@@ -1,7 +1,8 @@
 //! The lines of a script.
 ghost use Rattle.std.specs.Prelude.{◌≡◌};
+ghost use Rattle.lt_world.specs.Memory.{is_path};
 ghost use Rattle.lt_script.specs.Gives.{Gives};
-ghost use Rattle.lt_script.specs.Lines.{ended, is_path, accept_of, data_of, end_of, take_of, file_of, fill_of, line_of};
+ghost use Rattle.lt_script.specs.Lines.{ended, accept_of, data_of, end_of, take_of, file_of, fill_of, line_of};
 
 use crate::fields::{LineError, address_at, after, name_at, number_at};
 use crate::quoting::text_at;

@@ -1,6 +1,6 @@
 //! A script is put where it plays: its files into memory, its steps into a net.
-ghost use Rattle.std.specs.Prelude.{◌≡◌, ◌+◌, OnOk, IfOk, vec_len, vec_capacity};
-ghost use Rattle.lt_world.specs.Memory.{tree_of, IsPath};
+ghost use Rattle.std.specs.Prelude.{◌≡◌, true, OnOk, IfOk};
+ghost use Rattle.lt_world.specs.Memory.{tree_of, is_path};
 ghost use Rattle.lt_script.specs.Loads.{letters, path_of, with_file, planted, AreRooted};
 
 use crate::script::{ScriptFile, Step};
@@ -21,7 +21,7 @@ pub fn plant(alloc: Global, script: &[ScriptFile], files: &mut MemFiles) -> Resu
 }
 
 fn plant_one(alloc: Global, file: &ScriptFile, files: &mut MemFiles) -> Result<(), NoMemory>
-    requires { IsPath (path_of file.now) }
+    requires { is_path (path_of file.now) ≡ true }
     ensures tree { OnOk result (tree_of files.new ≡ with_file file.now (tree_of files.old)) }
     ensures rest { files.new ≡ record files.old { places = files.new.places } }
 {

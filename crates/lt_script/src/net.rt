@@ -1,21 +1,25 @@
 //! A net in memory, which plays a script.
-ghost use Rattle.std.specs.Prelude.{◌≡◌, ℕ, ◌+◌, ◌<◌, ◌≤◌, ◌∷◌, [], List, length, false, OnOk};
+ghost use Rattle.std.specs.Prelude.{◌≡◌, ℕ, ◌+◌, ◌<◌, ◌≤◌, ◌∷◌, [], List, length, false, OnOk, OnErr};
 ghost use Rattle.lt_world.specs.Trace.{said, names, link_bound, Close as closed};
 ghost use Rattle.lt_world.specs.Answers.{event_tells, kind_of, IsFresh, IsNumbered, OnEvent, UsesEvent, read_act, write_act, dial_act, GotWithin, TookWithin, IsFreshDial, IsNumberedDial};
-ghost use Rattle.lt_world.specs.Causes.{GotCause, TookCause, DialCause};
-ghost use Rattle.lt_script.specs.Calls.{after, Reads, Writes, Connects, Closes, Turns, start};
+ghost use Rattle.lt_world.specs.Causes.{Rose, GotCause, TookCause, DialCause};
+ghost use Rattle.lt_script.specs.Calls.{after, Reads, Writes, Connects, Closes, Turns};
 ghost use Rattle.lt_script.specs.Steps.{events_left};
 ghost use Rattle.lt_script.specs.Playing.{unplayed, IsLater};
 ghost use Rattle.lt_script.specs.Texts.{Spells};
 ghost use Rattle.lt_script.specs.Loads.{planted};
+ghost use Rattle.lt_script.specs.Reports.{Writes as Wrote, report_of};
 ghost use Rattle.lt_world.specs.Memory.{tree_of};
 
 use crate::links::Links;
 use crate::load::{copy_steps, plant};
+use crate::reporting::write_report;
 use crate::script::{Script, Step};
 use crate::steps::{ROOM, Taker, affect, allowed, due_from, spend, taker_of};
 use lt_bytes::{List, NoMemory};
-use lt_world::{Address, Dialled, Ending, Event, Got, Link, MemFiles, Net, NextKind, Owner, Took};
+use lt_world::{
+    Address, Dialled, Ending, Event, Fault, Got, Link, MemFiles, Net, NextKind, Owner, Sink, Took,
+};
 use std::alloc::Global;
 use std::marker::Model;
 
@@ -116,6 +120,16 @@ impl ScriptNet {
         self.last = kind(event);
         event
     }
+}
+
+/// Writes what each link of a net took, and how it ended: a line `NAME ENDING N "BYTES"` for each, in their order.
+pub fn report<S: Sink>(net: &ScriptNet, sink: &mut S) -> Result<(), Fault>
+    ensures writes { S.tells → Wrote result (S.bytes sink.old) (S.bytes sink.new) (report_of net.now.game.trace) }
+    ensures cause { OnErr result (Rose (S.faults sink.old) (S.faults sink.new)) }
+    ensures faults { S.faults sink.old ≤ S.faults sink.new }
+    ensures later { S.later sink.old sink.new }
+{
+    write_report(sink, &net.links)
 }
 
 // The kind of an answer.
