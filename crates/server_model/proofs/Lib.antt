@@ -15,6 +15,7 @@ pub mod Turning
 pub mod Arrivals
 pub mod Standing
 pub mod Stepping
+pub mod Going
 pub mod ReadSteps
 pub mod SettleSteps
 pub mod WriteSteps

@@ -1,55 +1,81 @@
 -- What follows a read or a write of a client: its request is answered, it is closed, or it rests.
 use Rattle.std.proofs.Common.{◌≡◌, ℕ, List, [], ◌∷◌, Bool, true, false, Option, Some, None, refl, sym, ◌∙◌, ap, subst, arith}
+use Rattle.lt_world.specs.declared.net.Ending.{Ending}
 use Rattle.lt_world.specs.declared.net.Ending.TheVariants as ending
 use Rattle.lt_world.specs.declared.files.FileCall.{FileCall}
 use Rattle.lt_world.specs.declared.files.FileCall.TheVariants as call
 use Rattle.lt_world.specs.Disk.{Disk, Table}
-use Rattle.lt_world.specs.Trace.{Act, Entry, Close}
+use Rattle.lt_world.specs.Trace.{Act}
 use Rattle.server_model.specs.Request.{Complete, Refused, request_of}
 use Rattle.server_model.specs.Plan.{World, Outcome, world_of, call_count, plan}
 use Rattle.server_model.specs.Reply.{error_bytes, reply_by}
-use Rattle.server_model.specs.Deeds.{Ours, ours, told}
-use Rattle.server_model.specs.Client.{IsRight}
+use Rattle.server_model.specs.Client.{IsFinished, IsRight}
 use Rattle.chunkqueue.specs.Items.{Item, Byte, FileByte, bytes_of}
 use Rattle.server_model.specs.Held.{Held}
 use Rattle.server_model.specs.Steps.{number_of, answered, without_file, is_in_memory, is_read_at, is_done}
 use Rattle.server_model.specs.Files.{Fits, FileStep, Drops}
 use Rattle.server_model.specs.Planning.{CallsFor, PlansTo}
-use Rattle.server_model.specs.Serves.{IsWaiting, Matches}
-use Rattle.server_model.specs.Due.{DueSettles, Settles}
-use Rattle.server_model.specs.Turns.{StepsBy}
-use Rattle.server_model.proofs.FileSteps.{drops}
+use Rattle.server_model.specs.Serves.{IsWaiting, Matches, Stands}
+use Rattle.server_model.specs.Settling.{SettlesOn, SettlesOut, SettlesTo}
+use Rattle.server_model.proofs.FileSteps.{same_files, drops, and_then}
 use Rattle.server_model.proofs.Clients.{awaits, answers, awaits_matches, answers_matches}
 use Rattle.server_model.proofs.Moves.{Asks, asks, answers_plan, answers_refused, answers_without_file}
 use Rattle.server_model.proofs.Settled.{asks_right}
-use Rattle.server_model.proofs.Standing.{matches_right, matches_finished, matches_stands, stands_rests}
-use Rattle.server_model.proofs.Stepping.{drops_world, step_none, step_closes, then_step}
+use Rattle.server_model.proofs.Standing.{matches_right, matches_finished, matches_stands}
+use Rattle.server_model.proofs.Stepping.{drops_world}
 
-module _ (root : List ℕ) (held : Held) (net files : Type 0) (may : Bool) (before : Disk) where
-  pub settle_rests : (old : List Entry) → IsWaiting held.stage held.input → is_done held ≡ false → (files → Fits before.table held) → StepsBy Matches (DueSettles may) root held (Some held) net files before before old old
-  settle_rests old waiting undone fits = step_none Matches (DueSettles may) root held net files before before old old fits
-      (λ f past m. let s = matches_stands before.table (world_of root before held.link) held (ours past) m waiting undone in (s, Settles.rests (stands_rests before.table (world_of root before held.link) held past s)))
+module _ (root : List ℕ) (held : Held) (files : Type 0) (before : Disk) where
+  pub settle_rests : IsWaiting held.stage held.input → is_done held ≡ false → (files → Fits before.table held) → SettlesOn root held held files before before
+  settle_rests waiting undone fits = record {
+    link = refl;
+    does = λ f. same_files held.link before held.file;
+    fits = fits;
+    keeps = λ f acts m. matches_stands before.table (world_of root before held.link) held acts m waiting undone;
+  }
 
-  pub settle_finishes : (after : Disk) (old now : List Entry) → IsWaiting held.stage held.input → is_done held ≡ true → (net → now ≡ told held.link (Ours (Close ending.Clean) ∷ []) old) → (files → Drops held.file before after)
-      → StepsBy Matches (DueSettles may) root held None net files before after old now
-  settle_finishes after old now waiting done gains dropped = step_closes Matches (DueSettles may) root held net files before after old now ending.Clean [] tt gains dropped
-      (λ f past m.
-      let done_now = matches_finished before.table (world_of root before held.link) held (ours past) m waiting done in
-      (matches_right before.table (world_of root before held.link) held (ours past) m, (λ e. done_now), Settles.finishes done_now m.sound))
+  pub settle_finishes : (may : Bool) → IsWaiting held.stage held.input → is_done held ≡ true → SettlesOut may root held held ending.Clean files before before
+  settle_finishes may waiting done = record {
+    allowed = tt;
+    link = refl;
+    does = λ f. same_files held.link before held.file;
+    keeps = λ f acts m. (matches_right before.table (world_of root before held.link) held acts m, (λ e. matches_finished before.table (world_of root before held.link) held acts m waiting done));
+  }
 
-  pub settle_yields : (after : Disk) (old now : List Entry) → may ≡ true → (net → now ≡ told held.link (Ours (Close ending.NoMemory) ∷ []) old) → (files → Drops held.file before after) → StepsBy Matches (DueSettles may) root held None net files before after old now
-  settle_yields after old now wanted gains dropped = step_closes Matches (DueSettles may) root held net files before after old now ending.NoMemory [] tt gains dropped
-      (λ f past m. (matches_right before.table (world_of root before held.link) held (ours past) m, (λ e. absurd (cc (e))), Settles.yields wanted))
+  pub settle_yields : (new : Held) → new.link ≡ held.link → new.file ≡ held.file → SettlesOut true root held new ending.NoMemory files before before
+  settle_yields new link file = record {
+    allowed = refl;
+    link = link;
+    does = λ f. subst (λ (o : Option ℕ). FileStep held.link held.file o before before) (sym file) (same_files held.link before held.file);
+    keeps = λ f acts m. (matches_right before.table (world_of root before held.link) held acts m, (λ e. absurd (cc (e))));
+  }
 
-  -- a change of what is kept, with no deed, and then what follows
-  pub settle_then : (mid : Held) (next : Option Held) (between after : Disk) (old now : List Entry) → mid.link ≡ held.link → (files → FileStep held.link held.file mid.file before between)
-      → (files → (acts : List Act) → Matches before.table (world_of root before held.link) held acts → Matches between.table (world_of root between held.link) mid acts)
-      → StepsBy Matches (DueSettles may) root mid next net files between after old now → StepsBy Matches (DueSettles may) root held next net files before after old now
-  settle_then mid next between after old now same does keeps step = then_step Matches Matches (DueSettles may) (DueSettles may) root held mid next net files before between after old old now [] tt (λ n. refl) does same (λ f past m. keeps f (ours past) m) (λ f past all m d. d) step
+-- a change of what is kept, and then what follows
+module _ (may : Bool) (root : List ℕ) (held mid new : Held) (files : Type 0) (before between after : Disk) (link : mid.link ≡ held.link) (does : files → FileStep held.link held.file mid.file before between)
+    (keeps : files → (acts : List Act) → Matches before.table (world_of root before held.link) held acts → Matches between.table (world_of root between held.link) mid acts) where
+  files_then : FileStep mid.link mid.file new.file between after → files → FileStep held.link held.file new.file before after
+  files_then later f = and_then held.link held.file mid.file new.file before between after (does f) (subst (λ (l : ℕ). FileStep l mid.file new.file between after) link later)
 
--- what it got is right
-abbrev pub IsRightAt : Table → World → Held → List Act → Type 0
-IsRightAt table world held acts = IsRight world acts
+  settle_on : SettlesOn root mid new files between after → SettlesOn root held new files before after
+  settle_on s = record {
+    link = s.link ∙ link;
+    does = λ f. files_then (s.does f) f;
+    fits = s.fits;
+    keeps = λ f acts m. let P : ℕ → Type 0 = λ l. Matches between.table (world_of root between l) mid acts → Stands after.table (world_of root after l) new acts in subst P link (s.keeps f acts) (keeps f acts m);
+  }
+
+  settle_out : (e : Ending) → SettlesOut may root mid new e files between after → SettlesOut may root held new e files before after
+  settle_out e s = record {
+    allowed = s.allowed;
+    link = s.link ∙ link;
+    does = λ f. files_then (s.does f) f;
+    keeps = λ f acts m.
+        let P : ℕ → Type 0 = λ l. Matches between.table (world_of root between l) mid acts → IsRight (world_of root after l) acts × (e ≡ ending.Clean → IsFinished (world_of root after l) acts) in
+        subst P link (s.keeps f acts) (keeps f acts m);
+  }
+
+  pub settle_then : (result : Option Ending) → SettlesTo may root mid new result files between after → SettlesTo may root held new result files before after
+  settle_then None s = settle_on s
+  settle_then (Some e) s = settle_out e s
 
 module _ (root : List ℕ) (held : Held) (before between : Disk) (acts : List Act) (path rest : List ℕ) (file : Option ℕ) (reads : is_read_at held.stage ≡ true) (request : request_of held.input ≡ Complete path rest) where
   -- its request is being planned
@@ -90,15 +116,15 @@ refuse_by root held disk acts status items reads request is m =
     answers_matches disk.table (world_of root disk held.link) (answered held held.input items None) acts
     (answers_refused disk.table (world_of root disk held.link) held acts status items (awaits disk.table (world_of root disk held.link) held acts m reads) request is)
 
-module _ (root : List ℕ) (held : Held) (net files : Type 0) (before between after : Disk) (old now : List Entry) where
-  -- memory is wanted for its plan, for which calls may have been made
-  pub plan_yields : (path rest : List ℕ) → is_read_at held.stage ≡ true → request_of held.input ≡ Complete path rest → held.file ≡ None → (files → CallsFor root held.link (number_of held.stage) None before between)
-      → (net → now ≡ told held.link (Ours (Close ending.NoMemory) ∷ []) old) → (files → Drops held.file between after) → StepsBy Matches (DueSettles true) root held None net files before after old now
-  plan_yields path rest reads request none calls gains dropped = then_step Matches IsRightAt (DueSettles true) (DueSettles true) root held held None net files before between after old old now [] tt (λ n. refl)
-      (λ f. subst (λ (o : Option ℕ). FileStep held.link o o before between) (sym none) (calls f).files) refl
-      (λ f past m. calls_right root held before between (ours past) path rest None reads request (calls f) m)
-      (λ f past all m d. d)
-      (step_closes IsRightAt (DueSettles true) root held net files between after old now ending.NoMemory [] tt gains dropped (λ f past right. (right, (λ e. absurd (cc (e))), Settles.yields refl)))
+-- memory is wanted for its plan, for which calls may have been made
+pub plan_yields : (root : List ℕ) (held new : Held) (files : Type 0) (before after : Disk) (path rest : List ℕ) → is_read_at held.stage ≡ true → request_of held.input ≡ Complete path rest → new.link ≡ held.link → held.file ≡ None → new.file ≡ None
+    → (files → CallsFor root held.link (number_of held.stage) None before after) → SettlesOut true root held new ending.NoMemory files before after
+plan_yields root held new files before after path rest reads request link none new_none calls = record {
+  allowed = refl;
+  link = link;
+  does = λ f. let P : Option ℕ → Option ℕ → Type 0 = λ a b. FileStep held.link a b before after in subst (λ (a : Option ℕ). P a new.file) (sym none) (subst (P None) (sym new_none) (calls f).files);
+  keeps = λ f acts m. (calls_right root held before after acts path rest None reads request (calls f) m, (λ e. absurd (cc (e))));
+}
 
 -- items in memory are the same bytes, whatever is open
 pub memory_same : (a b : Table) (items : List Item) → is_in_memory items ≡ true → bytes_of a items ≡ bytes_of b items
@@ -127,10 +153,9 @@ releases root held before between acts memory dropped m = by (is_read_at held.st
         now (answers_matches between.table (world_of root before held.link) (without_file held) acts
         (answers_without_file before.table (world_of root before held.link) held acts a between.table (memory_same between.table before.table held.owed memory)))
 
-module _ (root : List ℕ) (held : Held) (net files : Type 0) (may : Bool) (before between after : Disk) (old now : List Entry) (next : Option Held) where
-  pub release_then : is_in_memory held.owed ≡ true → (files → Drops held.file before between) → StepsBy Matches (DueSettles may) root (without_file held) next net files between after old now
-      → StepsBy Matches (DueSettles may) root held next net files before after old now
-  release_then memory dropped step = settle_then root held net files may before (without_file held) next between after old now refl
-      (λ f. drops held.link before between held.file (dropped f))
-      (λ f acts m. releases root held before between acts memory (dropped f) m)
-      step
+pub release_then : (may : Bool) (root : List ℕ) (held new : Held) (files : Type 0) (before between after : Disk) (result : Option Ending) → is_in_memory held.owed ≡ true → (files → Drops held.file before between)
+    → SettlesTo may root (without_file held) new result files between after → SettlesTo may root held new result files before after
+release_then may root held new files before between after result memory dropped settles = settle_then may root held (without_file held) new files before between after refl
+    (λ f. drops held.link before between held.file (dropped f))
+    (λ f acts m. releases root held before between acts memory (dropped f) m)
+    result settles

@@ -9,41 +9,34 @@ use Rattle.server_model.specs.Deeds.{Deed, Ours, ours, told, AreDeeds}
 use Rattle.server_model.specs.Client.{IsFinished, IsRight}
 use Rattle.server_model.specs.Held.{Held}
 use Rattle.server_model.specs.Files.{file_of, FitsFor, FileStep, Drops}
-use Rattle.server_model.specs.Serves.{Stands, IsGone, StandsFor}
-use Rattle.server_model.specs.Turns.{StepsBy}
+use Rattle.server_model.specs.Serves.{Stands, StandsFor}
+use Rattle.server_model.specs.Turns.{StepsBy, StopsBy, GoesBy}
 use Rattle.server_model.proofs.Owned.{told-append, AreDeeds-append}
-use Rattle.server_model.proofs.FileSteps.{same_files, drops, and_then}
-use Rattle.server_model.proofs.Settled.{closes}
+use Rattle.server_model.proofs.FileSteps.{same_files, and_then}
 
 -- a file that is given back changes no world
 pub drops_world : (root : List ℕ) (client : ℕ) (before after : Disk) (file : Option ℕ) → Drops file before after → world_of root after client ≡ world_of root before client
 drops_world root client before after None same = ap (λ d. world_of root d client) same
 drops_world root client before after (Some file) same = ap (λ d. world_of root d client) same
 
-module _ (From : Table → World → Held → List Act → Type 0) (due : World → World → List Deed → List Deed → Type 0) (root : List ℕ) (held : Held) (net files : Type 0) (before after : Disk) (old now : List Entry) where
+module _ (From : Table → World → Held → List Act → Type 0) (due : World → World → List Deed → List Deed → Type 0) (root : List ℕ) (held : Held) (net files : Type 0) (before : Disk) (old now : List Entry) where
   -- nothing is done
   pub step_none : (files → FitsFor before.table (Some held)) → (files → (past : List Deed) → From before.table (world_of root before held.link) held (ours past) → Stands before.table (world_of root before held.link) held (ours past) × due (world_of root before held.link) (world_of root before held.link) past past)
       → StepsBy From due root held (Some held) net files before before old old
   step_none fits keeps = record { deeds = []; are = tt; gains = λ n. refl; does = λ f. same_files held.link before held.file; fits = fits; keeps = keeps }
 
-  -- these deeds, after which it is closed and its file given back
-  pub step_closes : (e : Ending) (deeds : List Deed) → AreDeeds deeds → (net → now ≡ told held.link (Ours (Close e) ∷ deeds) old) → (files → Drops held.file before after)
+  -- these deeds, after which it is to be closed
+  pub step_stops : (e : Ending) (new : Held) (deeds : List Deed) → AreDeeds deeds → (net → now ≡ told held.link deeds old) → new.link ≡ held.link → new.file ≡ held.file
       → (files → (past : List Deed) → From before.table (world_of root before held.link) held (ours past)
       → IsRight (world_of root before held.link) (ours (deeds ++ past)) × (e ≡ ending.Clean → IsFinished (world_of root before held.link) (ours (deeds ++ past))) × due (world_of root before held.link) (world_of root before held.link) past (Ours (Close e) ∷ deeds ++ past))
-      → StepsBy From due root held None net files before after old now
-  step_closes e deeds are gains dropped keeps = record {
-    deeds = Ours (Close e) ∷ deeds;
-    are = (refl, are);
+      → StopsBy From due root held new e net files before before old now
+  step_stops e new deeds are gains link file keeps = record {
+    deeds = deeds;
+    are = are;
     gains = gains;
-    does = λ f. drops held.link before after held.file (dropped f);
-    fits = λ f. tt;
-    keeps = λ f past from.
-        let k = keeps f past from in
-        let same = drops_world root held.link before after held.file (dropped f) in
-        let gone : IsGone (world_of root before held.link) (Ours (Close e) ∷ deeds ++ past) = closes (world_of root before held.link) (deeds ++ past) e k.0 k.1 in (
-          subst (λ (w : World). IsGone w (Ours (Close e) ∷ deeds ++ past)) (sym same) gone,
-          subst (λ (w : World). due (world_of root before held.link) w past (Ours (Close e) ∷ deeds ++ past)) (sym same) k.2,
-        );
+    link = link;
+    does = λ f. subst (λ (o : Option ℕ). FileStep held.link held.file o before before) (sym file) (same_files held.link before held.file);
+    keeps = keeps;
   }
 
 -- known deeds and a change of what is kept, before another step
@@ -65,3 +58,27 @@ module _ (From Mid : Table → World → Held → List Act → Type 0) (due rest
         let both = subst P same (step.keeps f (deeds ++ past)) (from f past start) in
         subst Q (sym (append_assoc step.deeds deeds past)) (both.0, dues f past (step.deeds ++ (deeds ++ past)) start both.1);
   }
+
+-- a change of what is kept, with no deed, before another step
+module _ (From Mid : Table → World → Held → List Act → Type 0) (due : World → World → List Deed → List Deed → Type 0) (root : List ℕ) (held mid new : Held) (net files : Type 0) (before after : Disk) (old now : List Entry)
+    (link : mid.link ≡ held.link) (file : mid.file ≡ held.file) (from : files → (acts : List Act) → From before.table (world_of root before held.link) held acts → Mid before.table (world_of root before held.link) mid acts) where
+  on_steps : StepsBy Mid due root mid (Some new) net files before after old now → StepsBy From due root held (Some new) net files before after old now
+  on_steps step = then_step From Mid due due root held mid (Some new) net files before before after old old now [] tt (λ n. refl)
+      (λ f. subst (λ (o : Option ℕ). FileStep held.link held.file o before before) (sym file) (same_files held.link before held.file)) link (λ f past start. from f (ours past) start) (λ f past all start d. d) step
+
+  on_stops : (e : Ending) → StopsBy Mid due root mid new e net files before after old now → StopsBy From due root held new e net files before after old now
+  on_stops e s = record {
+    deeds = s.deeds;
+    are = s.are;
+    gains = λ n. s.gains n ∙ ap (λ (l : ℕ). told l s.deeds old) link;
+    link = s.link ∙ link;
+    does = λ f. let P : ℕ → Option ℕ → Type 0 = λ l o. FileStep l o new.file before after in subst (λ (l : ℕ). P l held.file) link (subst (P mid.link) file (s.does f));
+    keeps = λ f past start.
+        let P : ℕ → Type 0 = λ l. Mid before.table (world_of root before l) mid (ours past)
+        → IsRight (world_of root after l) (ours (s.deeds ++ past)) × (e ≡ ending.Clean → IsFinished (world_of root after l) (ours (s.deeds ++ past))) × due (world_of root before l) (world_of root after l) past (Ours (Close e) ∷ s.deeds ++ past) in
+        subst P link (s.keeps f past) (from f (ours past) start);
+  }
+
+  pub on_goes : (result : Option Ending) → GoesBy Mid due root mid new result net files before after old now → GoesBy From due root held new result net files before after old now
+  on_goes None step = on_steps step
+  on_goes (Some e) s = on_stops e s

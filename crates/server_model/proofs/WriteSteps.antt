@@ -1,10 +1,11 @@
 -- The steps of a client at a Writable event: each outcome of the one write, or of the read of the file before it.
-use Rattle.std.proofs.Common.{◌≡◌, ℕ, zero, suc, ◌≤◌, ◌<◌, List, [], ◌∷◌, ◌++◌, length, take, drop, Bool, true, false, nat_lt, nat_le, Option, Some, None, refl, sym, ◌∙◌, ap, subst, arith, take-append-drop, length-take}
+use Rattle.std.proofs.Common.{◌≡◌, ℕ, zero, suc, ◌≤◌, ◌<◌, List, [], ◌∷◌, ◌++◌, length, take, drop, Bool, true, false, nat_lt, nat_le, Option, Some, refl, sym, ◌∙◌, ap, subst, arith, take-append-drop, length-take}
 use Rattle.std.proofs.lemmas.List.{take-map}
 use Rattle.std.proofs.lemmas.Bool.Decides.{nat_tests}
+use Rattle.lt_world.specs.declared.net.Ending.{Ending}
 use Rattle.lt_world.specs.declared.net.Ending.TheVariants as ending
 use Rattle.lt_world.specs.Disk.{Disk, Table}
-use Rattle.lt_world.specs.Trace.{Act, Entry, Writing, NotYet, Failed, Wrote, Close}
+use Rattle.lt_world.specs.Trace.{Act, Entry, Writing, NotYet, Failed, Wrote}
 use Rattle.server_model.specs.Plan.{World, world_of}
 use Rattle.server_model.specs.Stream.{IsPrefix}
 use Rattle.server_model.specs.Deeds.{Deed, Ours, ours, told}
@@ -12,17 +13,19 @@ use Rattle.server_model.specs.Client.{current, owed, owes}
 use Rattle.chunkqueue.specs.Items.{Item, Byte, FileByte, bytes_of, item_byte, Leads, Shows}
 use Rattle.server_model.specs.Held.{Held}
 use Rattle.server_model.specs.Steps.{number_of, took, staged, is_read_at}
-use Rattle.server_model.specs.Files.{Fits, Drops}
+use Rattle.server_model.specs.Files.{Fits}
 use Rattle.server_model.specs.Serves.{Matches, Stands}
 use Rattle.server_model.specs.Due.{DueSettles, DueWrite, Settles, IsWriteAct, offer_limit, may_want_after_write}
-use Rattle.server_model.specs.Turns.{StepsBy}
+use Rattle.server_model.specs.Turns.{StepsBy, StopsBy, GoesBy}
+use Rattle.server_model.specs.Settling.{SettlesTo}
 use Rattle.server_model.proofs.FileSteps.{same_files}
 use Rattle.server_model.proofs.Clients.{AnswersFirst, awaits, answers, answers_matches}
 use Rattle.server_model.proofs.Moves.{answers_took, answers_staged}
 use Rattle.server_model.proofs.Settled.{number_is, length-bytes_of, fails_right}
 use Rattle.server_model.proofs.Planned.{memory_bytes}
 use Rattle.server_model.proofs.Standing.{matches_right, stands_owed, stands_owes, stands_not_yet, stands_rests}
-use Rattle.server_model.proofs.Stepping.{step_none, step_closes, then_step}
+use Rattle.server_model.proofs.Stepping.{step_none, step_stops, then_step, on_goes}
+use Rattle.server_model.proofs.Going.{then_settles}
 
 take_take : (n k : ℕ) (xs : List ℕ) → n ≤ k → take n (take k xs) ≡ take n xs
 take_take zero k xs le = refl
@@ -66,15 +69,15 @@ answers_some opened world held acts m some = by (is_read_at held.stage) refl
 module _ (failed : ℕ → Type 0) (root : List ℕ) (held : Held) (net files : Type 0) (before : Disk) where
   -- nothing is owed
   pub write_idle : (old : List Entry) → held.owed ≡ [] → (files → Fits before.table held) → StepsBy Stands (DueWrite failed) root held (Some held) net files before before old old
-  write_idle old none fits = step_none Stands (DueWrite failed) root held net files before before old old fits
+  write_idle old none fits = step_none Stands (DueWrite failed) root held net files before old old fits
       (λ f past s. (s, DueWrite.idle (stands_owes before.table (world_of root before held.link) held (ours past) s ∙ ap (λ (l : List Item). nat_lt 0 (length (bytes_of before.table l))) none)))
 
   owing : (past : List Deed) → 0 < length held.owed → Stands before.table (world_of root before held.link) held (ours past) → owes (world_of root before held.link) (ours past) ≡ true
   owing past some s = some_owed (world_of root before held.link) (ours past) (bytes_of before.table held.owed) (stands_owes before.table (world_of root before held.link) held (ours past) s) (omega (arith, some, length-bytes_of before.table held.owed))
 
   -- the read of the file failed
-  pub write_faults : (after : Disk) (old now : List Entry) → 0 < length held.owed → failed (number_of held.stage) → (net → now ≡ told held.link (Ours (Close ending.FileFault) ∷ []) old) → (files → Drops held.file before after) → StepsBy Stands (DueWrite failed) root held None net files before after old now
-  write_faults after old now some fault gains dropped = step_closes Stands (DueWrite failed) root held net files before after old now ending.FileFault [] tt gains dropped
+  pub write_faults : (old : List Entry) (new : Held) → 0 < length held.owed → failed (number_of held.stage) → new.link ≡ held.link → new.file ≡ held.file → StopsBy Stands (DueWrite failed) root held new ending.FileFault net files before before old old
+  write_faults old new some fault link file = step_stops Stands (DueWrite failed) root held net files before old old ending.FileFault new [] tt (λ n. refl) link file
       (λ f past s.
       let a = answers_some before.table (world_of root before held.link) held (ours past) s.matches some in
       let same : number_of held.stage ≡ (current (world_of root before held.link) (ours past)).number = ap number_of a.stage ∙ sym (number_is (world_of root before held.link) (ours past)) in
@@ -91,10 +94,10 @@ module _ (failed : ℕ → Type 0) (root : List ℕ) (held : Held) (net files : 
     write_not_yet gains fits = then_step Stands Stands (DueWrite failed) (DueSettles false) root held held (Some held) net files before before before old now now (Ours (NotYet Writing) ∷ []) (refl, tt) gains (λ f. same_files held.link before held.file) refl
         (λ f past s. stands_not_yet before.table (world_of root before held.link) held (ours past) Writing s)
         (λ f past all s settles. DueWrite.writes (NotYet Writing) (owing past some_first s) tt settles)
-        (step_none Stands (DueSettles false) root held net files before before now now fits (λ f past s. (s, Settles.rests (stands_rests before.table (world_of root before held.link) held past s))))
+        (step_none Stands (DueSettles false) root held net files before now now fits (λ f past s. (s, Settles.rests (stands_rests before.table (world_of root before held.link) held past s))))
 
-    pub write_failed : (after : Disk) → (net → now ≡ told held.link (Ours (Close ending.ClientFault) ∷ Ours (Failed Writing) ∷ []) old) → (files → Drops held.file before after) → StepsBy Stands (DueWrite failed) root held None net files before after old now
-    write_failed after gains dropped = step_closes Stands (DueWrite failed) root held net files before after old now ending.ClientFault (Ours (Failed Writing) ∷ []) (refl, tt) gains dropped
+    pub write_failed : (net → now ≡ told held.link (Ours (Failed Writing) ∷ []) old) → StopsBy Stands (DueWrite failed) root held held ending.ClientFault net files before before old now
+    write_failed gains = step_stops Stands (DueWrite failed) root held net files before old now ending.ClientFault held (Ours (Failed Writing) ∷ []) (refl, tt) gains refl refl
         (λ f past s. (
           fails_right (world_of root before held.link) (ours past) Writing (matches_right before.table (world_of root before held.link) held (ours past) s.matches),
           (λ e. absurd (cc (e))),
@@ -102,10 +105,10 @@ module _ (failed : ℕ → Type 0) (root : List ℕ) (held : Held) (net files : 
         ))
 
     -- it took some bytes, and then what follows
-    pub write_then : (after : Disk) (then : List Entry) (next : Option Held) (n : ℕ) → n ≤ length front → (net → then ≡ told held.link (Ours (Wrote (length front) (take n front)) ∷ []) old)
-        → StepsBy Matches (DueSettles (nat_le (length held.owed) (length (take n front)))) root (took held n) next net files before after then now → StepsBy Stands (DueWrite failed) root held next net files before after old now
-    write_then after then next n le gains step = then_step Stands Matches (DueWrite failed) (DueSettles (nat_le (length held.owed) (length (take n front)))) root held (took held n) next net files before before after old then now
-        (Ours (Wrote (length front) (take n front)) ∷ []) (refl, tt) gains (λ f. same_files held.link before held.file) refl
+    pub write_then : (after : Disk) (new : Held) (result : Option Ending) (n : ℕ) → n ≤ length front → (net → now ≡ told held.link (Ours (Wrote (length front) (take n front)) ∷ []) old)
+        → SettlesTo (nat_le (length held.owed) (length (take n front))) root (took held n) new result files before after → GoesBy Stands (DueWrite failed) root held new result net files before after old now
+    write_then after new result n le gains settles_to = then_settles Stands (DueWrite failed) (nat_le (length held.owed) (length (take n front))) root held (took held n) new net files before after old now
+        (Ours (Wrote (length front) (take n front)) ∷ []) (refl, tt) gains refl refl
         (λ f past s. answers_matches before.table (world_of root before held.link) (took held n) (Wrote (length front) (take n front) ∷ ours past)
         (answers_took before.table (world_of root before held.link) held (ours past) (answers_some before.table (world_of root before held.link) held (ours past) s.matches some_first) n (length front) (take n front) (front_taken before.table held.owed front (shown past s) n le)))
         (λ f past all s settles.
@@ -114,13 +117,13 @@ module _ (failed : ℕ → Type 0) (root : List ℕ) (held : Held) (net files : 
         let may : nat_le (length held.owed) (length (take n front)) ≡ may_want_after_write (owed (world_of root before held.link) (ours past)) (Wrote (length front) (take n front)) =
         ap (λ (k : ℕ). nat_le k (length (take n front))) (sym (length-bytes_of before.table held.owed)) ∙ ap (λ (d : List ℕ). nat_le (length d) (length (take n front))) (sym due) in
         DueWrite.writes (Wrote (length front) (take n front)) (owing past some_first s) act (subst (λ (b : Bool). Settles (world_of root after held.link) b (Ours (Wrote (length front) (take n front)) ∷ past) all) may settles))
-        step
+        result settles_to
 
   -- the front was read from its file, and then what follows
-  pub staged_then : (bytes : List ℕ) (next : Option Held) (after : Disk) (old now : List Entry) → 0 < length held.owed → (files → Shows before.table held.owed held.staged → Shows before.table held.owed bytes)
-      → StepsBy Stands (DueWrite failed) root (staged held bytes) next net files before after old now → StepsBy Stands (DueWrite failed) root held next net files before after old now
-  staged_then bytes next after old now some reads step = then_step Stands Stands (DueWrite failed) (DueWrite failed) root held (staged held bytes) next net files before before after old old now [] tt (λ n. refl) (λ f. same_files held.link before held.file) refl
-      (λ f past s.
-      let a = answers_some before.table (world_of root before held.link) held (ours past) s.matches some in
-      record { matches = answers_matches before.table (world_of root before held.link) (staged held bytes) (ours past) (answers_staged before.table (world_of root before held.link) held (ours past) a bytes (reads f a.shows)); waiting = s.waiting; unfinished = s.unfinished })
-      (λ f past all s d. d) step
+  pub staged_then : (bytes : List ℕ) (new : Held) (result : Option Ending) (after : Disk) (old now : List Entry) → 0 < length held.owed → (files → Shows before.table held.owed held.staged → Shows before.table held.owed bytes)
+      → GoesBy Stands (DueWrite failed) root (staged held bytes) new result net files before after old now → GoesBy Stands (DueWrite failed) root held new result net files before after old now
+  staged_then bytes new result after old now some reads goes = on_goes Stands Stands (DueWrite failed) root held (staged held bytes) new net files before after old now refl refl
+      (λ f acts s.
+      let a = answers_some before.table (world_of root before held.link) held acts s.matches some in
+      record { matches = answers_matches before.table (world_of root before held.link) (staged held bytes) acts (answers_staged before.table (world_of root before held.link) held acts a bytes (reads f a.shows)); waiting = s.waiting; unfinished = s.unfinished })
+      result goes

@@ -11,4 +11,5 @@ pub mod Planning
 pub mod Serves
 pub mod Due
 pub mod Turns
+pub mod Settling
 pub mod Runs

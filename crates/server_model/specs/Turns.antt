@@ -1,11 +1,14 @@
 -- One turn: an event, and what is done for each client that it concerns.
-use Rattle.std.specs.Prelude.{◌≡◌, ℕ, List, [], ◌∷◌, ◌++◌, false, Option, Some}
+use Rattle.std.specs.Prelude.{◌≡◌, ℕ, List, [], ◌∷◌, ◌++◌, false, Option, Some, None}
+use Rattle.lt_world.specs.declared.net.Ending.{Ending}
+use Rattle.lt_world.specs.declared.net.Ending.TheVariants as ending
 use Rattle.lt_world.specs.declared.net.Owner.{Owner}
 use Rattle.lt_world.specs.Causes.{Rose}
 use Rattle.lt_world.specs.Disk.{Disk, Table}
-use Rattle.lt_world.specs.Trace.{Act, Entry, Accepted, names}
+use Rattle.lt_world.specs.Trace.{Act, Entry, Accepted, Close, names}
 use Rattle.server_model.specs.Plan.{World, world_of}
-use Rattle.server_model.specs.Deeds.{Deed, own, ours, told, AreDeeds}
+use Rattle.server_model.specs.Deeds.{Deed, Ours, own, ours, told, AreDeeds}
+use Rattle.server_model.specs.Client.{IsFinished, IsRight}
 use Rattle.server_model.specs.Held.{Held, Serving}
 use Rattle.server_model.specs.Files.{file_of, FitsFor, FileStep}
 use Rattle.server_model.specs.Serves.{StandsFor, Serves}
@@ -63,6 +66,22 @@ pub record StepsBy (From : Table → World → Held → List Act → Type 0) (du
   pub fits : files → FitsFor after.table next
   pub keeps : files → (past : List Deed) → From before.table (world_of root before held.link) held (ours past)
       → StandsFor after.table (world_of root after held.link) next (deeds ++ past) × due (world_of root before held.link) (world_of root after held.link) past (deeds ++ past)
+
+-- the same up to where it is to be closed so, and what is kept by then
+pub record StopsBy (From : Table → World → Held → List Act → Type 0) (due : World → World → List Deed → List Deed → Type 0) (root : List ℕ) (held now_held : Held) (e : Ending) (net files : Type 0) (before after : Disk) (old now : List Entry) : Type 0 where
+  pub deeds : List Deed
+  pub are : AreDeeds deeds
+  pub gains : net → now ≡ told held.link deeds old
+  pub link : now_held.link ≡ held.link
+  pub does : files → FileStep held.link held.file now_held.file before after
+  pub keeps : files → (past : List Deed) → From before.table (world_of root before held.link) held (ours past)
+      → IsRight (world_of root after held.link) (ours (deeds ++ past)) × (e ≡ ending.Clean → IsFinished (world_of root after held.link) (ours (deeds ++ past)))
+      × due (world_of root before held.link) (world_of root after held.link) past (Ours (Close e) ∷ deeds ++ past)
+
+-- it stays open, or is to be closed
+abbrev pub GoesBy : (Table → World → Held → List Act → Type 0) → (World → World → List Deed → List Deed → Type 0) → List ℕ → Held → Held → Option Ending → Type 0 → Type 0 → Disk → Disk → List Entry → List Entry → Type 0
+GoesBy From due root held new None net files before after old now = StepsBy From due root held (Some new) net files before after old now
+GoesBy From due root held new (Some e) net files before after old now = StopsBy From due root held new e net files before after old now
 
 -- a link that arrives was never named
 abbrev pub IsNew : Act → ℕ → List Entry → Type 0
