@@ -5,13 +5,14 @@ use Rattle.std.proofs.Math.Seq.{take-length}
 use Rattle.lt_world.specs.declared.files.FileCall.{FileCall}
 use Rattle.lt_world.specs.declared.files.FileCall.TheVariants as call
 use Rattle.lt_world.specs.declared.net.Owner.{Owner}
-use Rattle.lt_world.specs.Disk.{Disk, Table, Missing, Directory, File, asked, opened}
+use Rattle.lt_world.specs.Disk.{Disk, Table, Missing, Directory, File, asked, opened, released}
 use Rattle.server_model.specs.Plan.{World, Outcome, Error, Content, outcome, plan, world_of, call_count, has_failed_call, with_call}
 use Rattle.chunkqueue.specs.Items.{Item, Byte, bytes_of, item_byte, range}
 use Rattle.server_model.specs.Files.{AllFit, FileStep}
-use Rattle.server_model.specs.Planning.{CallsFor, PlansError, PlansFile}
+use Rattle.server_model.specs.Planning.{CallsFor, PlansTo, PlansError, PlansFile}
 use Rattle.server_model.proofs.Calls.{asked_is, count_other, find_failed, unopened, open_failed, find_stays}
-use Rattle.server_model.proofs.FileSteps.{same_files, asks_file, opens_file, and_then}
+use Rattle.server_model.proofs.Stepping.{drops_world}
+use Rattle.server_model.proofs.FileSteps.{same_files, asks_file, opens_file, and_then, drops}
 use Rattle.lt_world.proofs.Disks.{opened_own}
 use Rattle.chunkqueue.proofs.Ranges.{bytes_of-range}
 
@@ -115,3 +116,14 @@ range_fits table file bytes is start (suc n) le = (refl, (bytes, is, omega (arit
 -- bytes in memory, and then a whole file
 pub file_reply : (table : Table) (file : ℕ) (head bytes : List ℕ) → table file ≡ Some bytes → bytes_of table (map Byte head ++ range file 0 (length bytes)) ≡ head ++ bytes
 file_reply table file head bytes is = map-append (item_byte table) (map Byte head) (range file 0 (length bytes)) ∙ (λ i. memory_bytes table head i ++ whole_range table file bytes is i)
+
+-- the file is given back at once
+module _ (root : List ℕ) (client k : ℕ) (path : List ℕ) (file : ℕ) (before between after : Disk) (same : after ≡ released file between) where
+  pub release_calls : CallsFor root client k (Some file) before between → CallsFor root client k None before after
+  release_calls calls = record {
+    files = and_then client None (Some file) None before between after calls.files (drops client between after (Some file) same);
+    others = λ j what apart. ap (λ (w : World). call_count w j what) (drops_world root client between after (Some file) same) ∙ calls.others j what apart;
+  }
+
+  pub release_plans : (o : Outcome) → PlansTo o root client k path before between → PlansTo o root client k path before after
+  release_plans o plans finds opens = ap (λ (w : World). plan w k path) (drops_world root client between after (Some file) same) ∙ plans finds opens

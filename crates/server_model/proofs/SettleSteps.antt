@@ -117,13 +117,13 @@ refuse_by root held disk acts status items reads request is m =
     (answers_refused disk.table (world_of root disk held.link) held acts status items (awaits disk.table (world_of root disk held.link) held acts m reads) request is)
 
 -- memory is wanted for its plan, for which calls may have been made
-pub plan_yields : (root : List ℕ) (held new : Held) (files : Type 0) (before after : Disk) (path rest : List ℕ) → is_read_at held.stage ≡ true → request_of held.input ≡ Complete path rest → new.link ≡ held.link → held.file ≡ None → new.file ≡ None
-    → (files → CallsFor root held.link (number_of held.stage) None before after) → SettlesOut true root held new ending.NoMemory files before after
-plan_yields root held new files before after path rest reads request link none new_none calls = record {
+pub plan_yields : (root : List ℕ) (held new : Held) (files : Type 0) (before after : Disk) (path rest : List ℕ) (file : Option ℕ) → is_read_at held.stage ≡ true → request_of held.input ≡ Complete path rest → new.link ≡ held.link → held.file ≡ None → new.file ≡ file
+    → (files → CallsFor root held.link (number_of held.stage) file before after) → SettlesOut true root held new ending.NoMemory files before after
+plan_yields root held new files before after path rest file reads request link none new_file calls = record {
   allowed = refl;
   link = link;
-  does = λ f. let P : Option ℕ → Option ℕ → Type 0 = λ a b. FileStep held.link a b before after in subst (λ (a : Option ℕ). P a new.file) (sym none) (subst (P None) (sym new_none) (calls f).files);
-  keeps = λ f acts m. (calls_right root held before after acts path rest None reads request (calls f) m, (λ e. absurd (cc (e))));
+  does = λ f. let P : Option ℕ → Option ℕ → Type 0 = λ a b. FileStep held.link a b before after in subst (λ (a : Option ℕ). P a new.file) (sym none) (subst (P None) (sym new_file) (calls f).files);
+  keeps = λ f acts m. (calls_right root held before after acts path rest file reads request (calls f) m, (λ e. absurd (cc (e))));
 }
 
 -- items in memory are the same bytes, whatever is open
