@@ -1,5 +1,12 @@
+pub mod Following
+pub mod Leaving
+pub mod Pieces
 pub mod Calls
 pub mod Copying
+pub mod Pooling
+pub mod Queues
 pub mod Ranges
 pub mod Segments
 pub mod Staging
+pub mod Taking
+pub mod Viewing

@@ -203,7 +203,7 @@ fn copy_memory(list: &LinkedList<Segment>, buf: &mut [u8]) -> usize
 }
 
 // Copies bytes into a buffer from a place on, as many as there is room for, and answers how many.
-fn copy_at(buf: &mut [u8], at: usize, bytes: &[u8]) -> usize
+pub(crate) fn copy_at(buf: &mut [u8], at: usize, bytes: &[u8]) -> usize
     requires { at ≤ length buf.old }
     ensures count { result ≡ min (length buf.old - at) (length bytes.now) }
     ensures bytes { buf.new ≡ take at buf.old ++ take result bytes.now ++ drop (at + result) buf.old }

@@ -121,7 +121,7 @@ impl FileSegment {
 }
 
 // Fills the first n bytes of a buffer by one read.
-fn read_front<F: Files>(
+pub(crate) fn read_front<F: Files>(
     buffer: &mut [u8],
     n: usize,
     files: &mut F,

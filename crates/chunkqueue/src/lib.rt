@@ -5,16 +5,24 @@
 //! Stands on `lt_bytes` (`NoMemory`), `lt_world` (`Files`) and `buffer_pool` (the words on buffers).
 #![tactic(auto)]
 
+mod advancing;
+mod appending;
 mod chain;
 mod file_segment;
+mod joining;
+mod looking;
 mod memory_segment;
+mod merging;
 mod plain;
+mod pooled;
 mod queue;
+mod reading;
 mod segment;
 mod store;
 
 pub use buffer_pool::BUFFER_SIZE;
 pub use plain::PlainQueue;
+pub use pooled::ChunkQueue;
 pub use queue::Queue;
 pub use store::PlainStore;
 

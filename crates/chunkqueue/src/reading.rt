@@ -1,0 +1,64 @@
+//! Bytes of a file that are read into the first chunk of a list.
+ghost use Rattle.std.specs.Prelude.{◌≡◌, ◌≤◌, length, Some, MatchOption, IsOk, OnOk, OnErr};
+ghost use Rattle.buffer_pool.specs.Kept.{numbers};
+ghost use Rattle.lt_world.specs.Causes.{Rose};
+ghost use Rattle.chunkqueue.specs.Plain.{FirstLies, first_staged, first_staging, segments_unstaged, staged_by};
+ghost use Rattle.chunkqueue.specs.Pooled.{AreKept, FillsOnly, IsIdle, Unread, segments_of};
+
+use crate::file_segment::read_front;
+use buffer_pool::{BUFFER_SIZE, ChunkList, Kind, Pool};
+use lt_world::{Fault, FileId, Files, Owner};
+
+/// Reads the first bytes of a range that stands first and of which nothing is staged, by one read.
+pub(crate) fn stage_front<F: Files>(
+    chunks: &mut ChunkList,
+    pool: &mut Pool,
+    files: &mut F,
+    owner: Owner,
+) -> Result<(), Fault>
+    requires kept { AreKept chunks.old }
+    requires lies { F.tells → FirstLies (F.disk files.old) (segments_of chunks.old) }
+    ensures still { AreKept chunks.new }
+    ensures rest { segments_unstaged (segments_of chunks.new) ≡ segments_unstaged (segments_of chunks.old) }
+    ensures staged { OnOk result (length (first_staged (segments_of chunks.new)) ≡ first_staging (segments_of chunks.old)) }
+    ensures bytes { OnOk result (F.tells → first_staged (segments_of chunks.new) ≡ staged_by (F.disk files.old) (segments_of chunks.old)) }
+    ensures idle { first_staging (segments_of chunks.old) ≡ length (first_staged (segments_of chunks.old)) →
+        IsOk result × (chunks.new ≡ chunks.old) × (files.new ≡ files.old) }
+    ensures err { OnErr result (chunks.new ≡ chunks.old) }
+    ensures cause { OnErr result (Rose (F.faults files.old) (F.faults files.new)) }
+    ensures owner { OnErr result (F.tells → F.failed_read files.new ≡ Some owner) }
+    ensures read { OnOk result (F.tells → F.failed_read files.new ≡ F.failed_read files.old) }
+    ensures disk { F.tells → F.disk files.new ≡ F.disk files.old }
+    ensures faults { F.faults files.old ≤ F.faults files.new }
+    ensures later { F.later files.old files.new }
+    ensures numbers { numbers chunks.new ≡ numbers chunks.old }
+    ensures pool { FillsOnly pool.old pool.new BUFFER_SIZE }
+{
+    let Some((file, start, n)) = unread_front(chunks) else {
+        return Ok(());
+    };
+    let mut buffer = [0u8; BUFFER_SIZE];
+    match read_front(&mut buffer, n, files, owner, FileId(file), start) {
+        Ok(()) => {
+            chunks.put_front(pool, &buffer[..n]);
+            Ok(())
+        }
+        Err(fault) => Err(fault),
+    }
+}
+
+// The file, the position and the number of the bytes that are to be read.
+fn unread_front(chunks: &ChunkList) -> Option<(u32, u64, usize)>
+    ensures { MatchOption result (IsIdle chunks.now) (λ m. Unread chunks.now m.0 m.1 m.2) }
+{
+    let view = chunks.front()?;
+    match view.kind {
+        Kind::Bytes => None,
+        Kind::File { file, start, len } => {
+            if !view.bytes.is_empty() {
+                return None;
+            }
+            Some((file, start, len.min(BUFFER_SIZE as u64) as usize))
+        }
+    }
+}
