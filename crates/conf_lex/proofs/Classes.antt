@@ -11,9 +11,9 @@ skip true u v w n e = absurd (n e)
 skip false u v w n e = e
 
 -- no later test gives the class, so this one holds
-pub hit : (y : Bool) (u v w : Class) → (v ≡ w → ⊥) → cond y u v ≡ w → y ≡ true
-hit true u v w n e = refl
-hit false u v w n e = absurd (n e)
+pub hit : (y : Bool) (u v w : Class) → cond y u v ≡ w → (v ≡ w → ⊥) → y ≡ true
+hit true u v w e n = refl
+hit false u v w e n = absurd (n e)
 
 pub word_feed : (x : Class) → in_word x ≡ true → is_feed x ≡ false
 word_feed c.Feed e = cc

@@ -4,3 +4,5 @@ pub mod Sound
 pub mod Public
 pub mod Numbers
 pub mod Steps
+pub mod Bytes
+pub mod Lexed

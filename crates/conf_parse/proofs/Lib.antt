@@ -5,3 +5,9 @@ pub mod Room
 pub mod Refused
 pub mod Public
 pub mod Printed
+pub mod Pieces
+pub mod Fine
+pub mod ValueAgain
+pub mod Family
+pub mod TreeAgain
+pub mod Reread

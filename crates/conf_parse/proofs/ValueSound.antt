@@ -61,11 +61,11 @@ RestReading v xs ts r = RestMode v.mode v.room v.terms v.opens xs ts r
 
 -- ---- a step back
 
-sum_of : {d : ℕ} {v : Term} {vs : List Term} {ts mid r : List Mark} → IsValue d v ts mid → Tail d vs mid r → IsSum d (v ∷ vs) ts r
+pub sum_of : {d : ℕ} {v : Term} {vs : List Term} {ts mid r : List Mark} → IsValue d v ts mid → Tail d vs mid r → IsSum d (v ∷ vs) ts r
 sum_of h no_more = one h
 sum_of h (plus hs) = sum h hs
 
-items_of : {d : ℕ} {key : Option Text} {v : List Term} {its : List Item} {ts mid r : List Mark} → IsItem d key v ts mid → Closes d its mid r → IsItems d (item_of key v ∷ its) ts r
+pub items_of : {d : ℕ} {key : Option Text} {v : List Term} {its : List Item} {ts mid r : List Mark} → IsItem d key v ts mid → Closes d its mid r → IsItems d (item_of key v ∷ its) ts r
 items_of h shuts = last h
 items_of h (comma hs) = more h hs
 

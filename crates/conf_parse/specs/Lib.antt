@@ -5,3 +5,5 @@ pub mod Machine
 pub mod Refusal
 pub mod Answers
 pub mod Print
+pub mod SameTree
+pub mod Reread

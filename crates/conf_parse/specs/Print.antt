@@ -1,5 +1,5 @@
 -- The printed form. The number is how deep blocks and arrays may still nest; what is nested deeper is left out.
-use Rattle.std.specs.Prelude.{ℕ, zero, suc, ◌-◌, ◌++◌, List, [], ◌∷◌, Option, Some, None, Bool, true, false, codes, if◌then◌else◌, ◌==◌, flat_map}
+use Rattle.std.specs.Prelude.{ℕ, zero, suc, ◌-◌, ◌++◌, List, [], ◌∷◌, Option, Some, None, Bool, true, false, codes, flat_map}
 use Rattle.std.specs.Fmt.{signed_decimal}
 use Rattle.conf_value.specs.declared.condition.Op.{Op}
 use Rattle.conf_value.specs.declared.condition.Op.TheVariants as op
@@ -12,25 +12,15 @@ use Rattle.conf_parse.specs.declared.tree.What.TheOpen.{What-F}
 use Rattle.conf_parse.specs.declared.tree.Branch.{Branch, out-Branch}
 use Rattle.conf_parse.specs.declared.tree.RawCondition.{RawCondition}
 use Rattle.conf_parse.specs.declared.tree.Tree.{Tree}
+use Rattle.conf_lex.specs.Spelling.{quoted}
 use Rattle.conf_parse.specs.Symbols.{Text}
 
--- ---- texts
-
-abbrev pub escaped : ℕ → Text
-escaped b = if b == 34 then 92 ∷ 34 ∷ [] else b ∷ []
-
-abbrev pub inside : Text → Text
-inside = flat_map escaped
-
-abbrev pub quoted : Text → Text
-quoted t = 34 ∷ (inside t ++ 34 ∷ [])
+-- ---- values
 
 -- one or more with something between
 abbrev pub separated : {A : Type 0} → (A → Text) → Text → List A → Text
 separated f between [] = []
 separated f between (x ∷ xs) = f x ++ flat_map (λ y. between ++ f y) xs
-
--- ---- values
 
 abbrev pub key_text : Option Text → Text
 key_text (Some k) = quoted k ++ codes " => "

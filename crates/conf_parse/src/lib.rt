@@ -6,6 +6,7 @@
 #![tactic(auto)]
 
 mod error;
+mod laws;
 mod machine;
 mod parser;
 mod printer;
@@ -17,6 +18,7 @@ mod tree;
 mod value;
 
 pub use error::ParseError;
-pub use parser::{MAX_NESTING, one_tree, parse};
+pub use laws::{one_tree, printed_is_reread};
+pub use parser::{MAX_NESTING, parse};
 pub use statements::print;
 pub use tree::{Branch, Item, RawCondition, Statement, Term, Tree, What};

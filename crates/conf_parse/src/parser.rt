@@ -48,8 +48,3 @@ pub fn parse(alloc: Global, tokens: &List<Token>) -> Result<Tree, ParseError>
 {
     read(alloc, tokens.as_slice())
 }
-
-/// A list of tokens is spelled by at most one tree.
-pub fn one_tree()
-    ensures { (room : ℕ) (a b : Tree) (tokens : List Token) → Spells room a tokens → Spells room b tokens → a ≡ b }
-{}

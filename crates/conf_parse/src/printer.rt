@@ -1,6 +1,7 @@
 //! The printed form: values.
 ghost use Rattle.std.specs.Prelude.{[], ◌∷◌, ◌++◌, ◌≡◌, OnOk, codes};
 ghost use Rattle.std.specs.Fmt.{signed_decimal};
+ghost use Rattle.conf_lex.specs.Spelling as spelling;
 ghost use Rattle.conf_parse.specs.Print as spec;
 ghost use Rattle.conf_parse.specs.declared.tree.Term.{out-Term};
 
@@ -9,7 +10,7 @@ use lt_bytes::{NoMemory, Text, decimal};
 
 /// A text between quotation marks.
 pub fn quoted(out: &mut Text, text: &[u8]) -> Result<(), NoMemory>
-    ensures { OnOk result (out.new ≡ out.old ++ spec.quoted text.now) }
+    ensures { OnOk result (out.new ≡ out.old ++ spelling.quoted text.now) }
 {
     out.push(b'"')?;
     inside(out, text)?;
@@ -17,7 +18,7 @@ pub fn quoted(out: &mut Text, text: &[u8]) -> Result<(), NoMemory>
 }
 
 fn inside(out: &mut Text, text: &[u8]) -> Result<(), NoMemory>
-    ensures { OnOk result (out.new ≡ out.old ++ spec.inside text.now) }
+    ensures { OnOk result (out.new ≡ out.old ++ spelling.inside text.now) }
 {
     for byte in text {
         if *byte == b'"' {

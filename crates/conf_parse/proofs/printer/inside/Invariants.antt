@@ -1,5 +1,5 @@
 use Rattle.std.proofs.Common.{◌++◌, ◌≡◌, drop}
-use Rattle.conf_parse.specs.Print as spec
+use Rattle.conf_lex.specs.Spelling as spec
 use Rattle.conf_parse.proofs.printer.inside.Given as goal
 
 abbrev pub invariant-loop-byte : goal.invariant-loop-byte
