@@ -20,4 +20,5 @@ mod writing;
 
 pub use net::{ScriptNet, report};
 pub use parse::parse_script;
-pub use script::{Name, Script, ScriptError, ScriptFile, Step};
+pub use script::{MOST_BYTES, Name, Script, ScriptError, ScriptFile, Step};
+pub use writing::write_all;

@@ -78,6 +78,7 @@ impl ScriptNet {
         ensures plays { OnOk result (self.new ≡ unplayed script.now.steps) }
         ensures tree { OnOk result (tree_of files.new ≡ planted script.now.files (tree_of files.old)) }
         ensures rest { files.new ≡ record files.old { places = files.new.places } }
+        ensures unasked { self.new.last ≡ self.old.last }
     {
         plant(self.alloc, script.files.as_slice(), files)?;
         self.steps = copy_steps(self.alloc, script.steps.as_slice())?;
