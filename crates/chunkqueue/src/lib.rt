@@ -21,6 +21,7 @@ mod segment;
 mod store;
 
 pub use buffer_pool::BUFFER_SIZE;
+pub use merging::MERGE_SIZE;
 pub use plain::PlainQueue;
 pub use pooled::ChunkQueue;
 pub use queue::Queue;
@@ -32,5 +33,7 @@ pub type Chunks = PlainQueue;
 /// The owner of its buffers.
 pub type Store = PlainStore;
 
+#[cfg(test)]
+mod pooled_tests;
 #[cfg(test)]
 mod tests;

@@ -10,7 +10,7 @@ ghost use Rattle.chunkqueue.specs.Pooled.{AreKept, Gains, FillsOnly, weight_of};
 use buffer_pool::{BUFFER_SIZE, ChunkList, Kind, Pool};
 
 /// Two neighbouring chunks in memory that hold no more than this together are merged.
-pub(crate) const MERGE_SIZE: usize = 2048;
+pub const MERGE_SIZE: usize = 2048;
 
 // What the last chunk holds and the room behind that, where it holds bytes in memory.
 fn last_memory(chunks: &ChunkList) -> Option<(usize, usize)>

@@ -1,4 +1,5 @@
 //! What every chunk queue does.
+use crate::merging::MERGE_SIZE;
 use buffer_pool::BUFFER_SIZE;
 use lt_bytes::NoMemory;
 use lt_world::{Fault, FileId, Files, Owner};
@@ -33,6 +34,7 @@ pub trait Queue {
         ensures err { OnErr result (contents self.new ≡ contents self.old) }
         ensures staged { staged_of (contents self.new) ≡ staged_of (contents self.old) }
         ensures spare { length bytes.now ≤ BUFFER_SIZE * length (stored store.old).free → IsOk result }
+        ensures filled { (stored store.new).filled ≤ (stored store.old).filled + length bytes.now + MERGE_SIZE }
         ensures kept { Kept (stored store.old) (contents self.old).numbers (stored store.new) (contents self.new).numbers };
 
     /// Appends a range of an opened file. A range of no bytes appends nothing.
@@ -50,6 +52,7 @@ pub trait Queue {
         ensures err { OnErr result (contents self.new ≡ contents self.old) }
         ensures staged { staged_of (contents self.new) ≡ staged_of (contents self.old) }
         ensures spare { min len 1 ≤ length (stored store.old).free → IsOk result }
+        ensures filled { (stored store.new).filled ≡ (stored store.old).filled }
         ensures kept { Kept (stored store.old) (contents self.old).numbers (stored store.new) (contents self.new).numbers };
 
     /// Moves everything to the end of this queue. It copies nothing and takes no memory.
@@ -60,6 +63,7 @@ pub trait Queue {
         ensures from { contents from.new ≡ empty }
         ensures staged { staged_of (contents self.new) ≡
             staged_behind (items_of (contents self.old)) (staged_of (contents self.old)) (staged_of (contents from.old)) }
+        ensures filled { (stored store.new).filled ≤ (stored store.old).filled + 2 * MERGE_SIZE }
         ensures kept { Kept (stored store.old) ((contents self.old).numbers ++ (contents from.old).numbers)
             (stored store.new) (contents self.new).numbers };
 
@@ -96,6 +100,7 @@ pub trait Queue {
         ensures disk { F.tells → F.disk files.new ≡ F.disk files.old }
         ensures faults { F.faults files.old ≤ F.faults files.new }
         ensures later { F.later files.old files.new }
+        ensures filled { (stored store.new).filled ≤ (stored store.old).filled + BUFFER_SIZE }
         ensures kept { Kept (stored store.old) (contents self.old).numbers (stored store.new) (contents self.new).numbers };
 
     /// Takes bytes off the front. It takes no memory.
@@ -104,6 +109,7 @@ pub trait Queue {
         requires within { n ≤ length (front_of (contents self.old)) }
         ensures items { items_of (contents self.new) ≡ drop n (items_of (contents self.old)) }
         ensures staged { staged_of (contents self.new) ≡ drop n (staged_of (contents self.old)) }
+        ensures filled { (stored store.new).filled ≡ (stored store.old).filled }
         ensures kept { Kept (stored store.old) (contents self.old).numbers (stored store.new) (contents self.new).numbers };
 
     /// Copies the bytes in memory that stand before any range, as many as there is room for, and
@@ -117,12 +123,14 @@ pub trait Queue {
     fn empty_into(&mut self, store: &mut Self::Owner)
         requires { HeldWithin (stored store.old) (length (contents self.old).numbers) }
         ensures empty { contents self.new ≡ empty }
+        ensures filled { (stored store.new).filled ≡ (stored store.old).filled }
         ensures kept { Kept (stored store.old) (contents self.old).numbers (stored store.new) [] };
 
     /// Gives every buffer back, and ends the queue. It takes no memory.
     fn close(self, store: &mut Self::Owner)
         requires { HeldWithin (stored store.old) (length (contents self).numbers) }
-        ensures { Kept (stored store.old) (contents self).numbers (stored store.new) [] };
+        ensures filled { (stored store.new).filled ≡ (stored store.old).filled }
+        ensures kept { Kept (stored store.old) (contents self).numbers (stored store.new) [] };
 
     /// How many items there are.
     fn len(&self) -> u64

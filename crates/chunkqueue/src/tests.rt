@@ -5,14 +5,14 @@ use super::*;
 use lt_world::{Fault, FileId, Files, Found, Opened, Owner};
 use std::test::Fail;
 
-const OWNER: Owner = Owner {
+pub(crate) const OWNER: Owner = Owner {
     conn: 0,
     request: 0,
 };
 
 /// Files in which the letters from a to z stand one after another, over and over.
 #[derive(Drop)]
-struct Letters {
+pub(crate) struct Letters {
     broken: bool,
     faults: u64,
 }
@@ -63,7 +63,7 @@ impl Files for Letters {
     fn release(&mut self, _file: FileId) {}
 }
 
-fn sound_files() -> Letters {
+pub(crate) fn sound_files() -> Letters {
     Letters {
         broken: false,
         faults: 0,
