@@ -1,15 +1,18 @@
 -- The steps of a client at a Readable event: each outcome of the one read.
-use Rattle.std.proofs.Common.{◌≡◌, ℕ, List, [], ◌∷◌, true, false, Option, Some, refl, ◌∙◌}
+use Rattle.std.proofs.Common.{◌≡◌, ◌≤◌, Bool, not, length, subst, arith, ℕ, List, [], ◌∷◌, true, false, Option, Some, refl, ◌∙◌}
 use Rattle.lt_world.specs.declared.net.Ending.{Ending}
 use Rattle.lt_world.specs.declared.net.Ending.TheVariants as ending
 use Rattle.lt_world.specs.Disk.{Disk}
 use Rattle.lt_world.specs.Trace.{Entry, Reading, Read, ReadEnd, NotYet, Failed}
 use Rattle.server_model.specs.Plan.{world_of}
 use Rattle.server_model.specs.Deeds.{Ours, ours, told}
-use Rattle.server_model.specs.Held.{Held}
+use Rattle.server_model.specs.Held.{Stage, Held}
+use Rattle.server_model.specs.Request.{Unfinished, head_limit, request_of}
+use Rattle.server_model.proofs.Requests.{unfinished_short}
+use Rattle.server_model.proofs.Clients.{awaiting}
 use Rattle.server_model.specs.Steps.{received, received_end, is_read_at, wants_read}
 use Rattle.server_model.specs.Files.{Fits}
-use Rattle.server_model.specs.Serves.{Stands}
+use Rattle.server_model.specs.Serves.{IsWaiting, Stands}
 use Rattle.server_model.specs.Due.{DueSettles, DueRead, Settles}
 use Rattle.server_model.specs.Turns.{StepsBy, StopsBy, GoesBy}
 use Rattle.server_model.specs.Settling.{SettlesTo}
@@ -23,6 +26,18 @@ module _ (root : List ℕ) (held : Held) (net files : Type 0) (before : Disk) wh
   -- no read is wanted
   pub read_idle : (old : List Entry) → wants_read held ≡ false → (files → Fits before.table held) → StepsBy Stands DueRead root held (Some held) net files before before old old
   read_idle old isnt fits = step_none Stands DueRead root held net files before old old fits (λ f past s. (s, DueRead.idle (stands_wants before.table (world_of root before held.link) held (ours past) s ∙ isnt)))
+
+  -- nor is there room for one: never for a client that stands and wants it
+  pub read_full : (old : List Entry) → (wants_read held ≡ true → head_limit ≤ length held.input) → (files → Fits before.table held) → StepsBy Stands DueRead root held (Some held) net files before before old old
+  read_full old full fits = by (wants_read held) refl
+    where
+      by : (t : Bool) → wants_read held ≡ t → StepsBy Stands DueRead root held (Some held) net files before before old old
+      by false isnt = read_idle old isnt fits
+      by true is = step_none Stands DueRead root held net files before old old fits
+          (λ f past s.
+          let k = awaiting held.stage (and_true (is_read_at held.stage) (not held.ended) is).0 in
+          let request : request_of held.input ≡ Unfinished = subst (λ (g : Stage). IsWaiting g held.input) k.1 s.waiting in
+          absurd (omega (arith, full is, unfinished_short held.input request)))
 
   module _ (old now : List Entry) (is : wants_read held ≡ true) where
     pub read_not_yet : (net → now ≡ told held.link (Ours (NotYet Reading) ∷ []) old) → (files → Fits before.table held) → StepsBy Stands DueRead root held (Some held) net files before before old now

@@ -160,3 +160,19 @@ head_none (b ∷ bytes) m is = later_none b bytes (λ k. head_none bytes k) (byt
 pub head_first : (bytes : List ℕ) (n m : ℕ) → head_end bytes ≡ Some n → m + 4 < n → take 4 (drop m bytes) ≢ empty_line
 head_first [] n m is below = absurd (cc (is))
 head_first (b ∷ bytes) n m is below = later_first b bytes n (λ k j. head_first bytes k j) (bytes_eq (take 4 (b ∷ bytes)) empty_line) refl is m below
+
+unasked : (o : Option (List ℕ)) (rest : List ℕ) → asked o rest ≡ Unfinished → ⊥
+unasked None rest is = cc (is)
+unasked (Some path) rest is = cc (is)
+
+-- a request that isn't whole has fewer bytes than a head may have
+pub unfinished_short : (bytes : List ℕ) → request_of bytes ≡ Unfinished → length bytes < head_limit
+unfinished_short bytes is = by (head_end (take head_limit bytes)) is
+  where
+    short : (t : Bool) → nat_le head_limit (length bytes) ≡ t → (if t then Refused 501 else Unfinished) ≡ Unfinished → length bytes < head_limit
+    short true full e = absurd (cc (e))
+    short false below e = grind (arith, nat_tests, below)
+
+    by : (o : Option ℕ) → headed o bytes ≡ Unfinished → length bytes < head_limit
+    by None e = short (nat_le head_limit (length bytes)) refl e
+    by (Some n) e = absurd (unasked (target_of (first_line (take n bytes))) (drop n bytes) e)

@@ -82,3 +82,37 @@ module _ (From Mid : Table → World → Held → List Act → Type 0) (due : Wo
   pub on_goes : (result : Option Ending) → GoesBy Mid due root mid new result net files before after old now → GoesBy From due root held new result net files before after old now
   on_goes None step = on_steps step
   on_goes (Some e) s = on_stops e s
+
+-- the same step, by what is due in another way, and from a disk that is the same where files tell
+module _ (From : Table → World → Held → List Act → Type 0) (due rest : World → World → List Deed → List Deed → Type 0) (root : List ℕ) (held new : Held) (net files : Type 0) (other before after : Disk) (old now : List Entry)
+    (dues : (was is : World) (past all : List Deed) → due was is past all → rest was is past all) (same : files → other ≡ before) where
+  pub same_steps : (next : Option Held) → StepsBy From due root held next net files before after old now → StepsBy From rest root held next net files other after old now
+  same_steps next s = record {
+    deeds = s.deeds;
+    are = s.are;
+    gains = s.gains;
+    does = λ f. subst (λ (d : Disk). FileStep held.link held.file (file_of next) d after) (sym (same f)) (s.does f);
+    fits = s.fits;
+    keeps = λ f past start.
+        let P : Disk → Type 0 = λ d. From d.table (world_of root d held.link) held (ours past) → StandsFor after.table (world_of root after held.link) next (s.deeds ++ past) × due (world_of root d held.link) (world_of root after held.link) past (s.deeds ++ past) in
+        let both = subst P (sym (same f)) (s.keeps f past) start in
+        (both.0, dues (world_of root other held.link) (world_of root after held.link) past (s.deeds ++ past) both.1);
+  }
+
+  pub same_stops : (e : Ending) → StopsBy From due root held new e net files before after old now → StopsBy From rest root held new e net files other after old now
+  same_stops e s = record {
+    deeds = s.deeds;
+    are = s.are;
+    gains = s.gains;
+    link = s.link;
+    does = λ f. subst (λ (d : Disk). FileStep held.link held.file new.file d after) (sym (same f)) (s.does f);
+    keeps = λ f past start.
+        let P : Disk → Type 0 = λ d. From d.table (world_of root d held.link) held (ours past)
+        → IsRight (world_of root after held.link) (ours (s.deeds ++ past)) × (e ≡ ending.Clean → IsFinished (world_of root after held.link) (ours (s.deeds ++ past))) × due (world_of root d held.link) (world_of root after held.link) past (Ours (Close e) ∷ s.deeds ++ past) in
+        let all = subst P (sym (same f)) (s.keeps f past) start in
+        (all.0, all.1, dues (world_of root other held.link) (world_of root after held.link) past (Ours (Close e) ∷ s.deeds ++ past) all.2);
+  }
+
+  pub same_goes : (result : Option Ending) → GoesBy From due root held new result net files before after old now → GoesBy From rest root held new result net files other after old now
+  same_goes None s = same_steps (Some new) s
+  same_goes (Some e) s = same_stops e s

@@ -76,12 +76,12 @@ module _ (failed : ℕ → Type 0) (root : List ℕ) (held : Held) (net files : 
   owing past some s = some_owed (world_of root before held.link) (ours past) (bytes_of before.table held.owed) (stands_owes before.table (world_of root before held.link) held (ours past) s) (omega (arith, some, length-bytes_of before.table held.owed))
 
   -- the read of the file failed
-  pub write_faults : (old : List Entry) (new : Held) → 0 < length held.owed → failed (number_of held.stage) → new.link ≡ held.link → new.file ≡ held.file → StopsBy Stands (DueWrite failed) root held new ending.FileFault net files before before old old
+  pub write_faults : (old : List Entry) (new : Held) → 0 < length held.owed → (files → failed (number_of held.stage)) → new.link ≡ held.link → new.file ≡ held.file → StopsBy Stands (DueWrite failed) root held new ending.FileFault net files before before old old
   write_faults old new some fault link file = step_stops Stands (DueWrite failed) root held net files before old old ending.FileFault new [] tt (λ n. refl) link file
       (λ f past s.
       let a = answers_some before.table (world_of root before held.link) held (ours past) s.matches some in
       let same : number_of held.stage ≡ (current (world_of root before held.link) (ours past)).number = ap number_of a.stage ∙ sym (number_is (world_of root before held.link) (ours past)) in
-      (matches_right before.table (world_of root before held.link) held (ours past) s.matches, (λ e. absurd (cc (e))), DueWrite.faults (owing past some s) (subst failed same fault)))
+      (matches_right before.table (world_of root before held.link) held (ours past) s.matches, (λ e. absurd (cc (e))), DueWrite.faults (owing past some s) (subst failed same (fault f))))
 
   module _ (old now : List Entry) (front : List ℕ) (leads : Leads held.owed held.staged front) (some : 1 ≤ length front) (most : length front ≤ offer_limit) where
     pub some_first : 0 < length held.owed
@@ -127,3 +127,9 @@ module _ (failed : ℕ → Type 0) (root : List ℕ) (held : Held) (net files : 
       let a = answers_some before.table (world_of root before held.link) held acts s.matches some in
       record { matches = answers_matches before.table (world_of root before held.link) (staged held bytes) acts (answers_staged before.table (world_of root before held.link) held acts a bytes (reads f a.shows)); waiting = s.waiting; unfinished = s.unfinished })
       result goes
+
+-- a read that failed for one reason failed for a weaker one
+pub due_write_more : (failed more : ℕ → Type 0) → ((k : ℕ) → failed k → more k) → (was is : World) (past all : List Deed) → DueWrite failed was is past all → DueWrite more was is past all
+due_write_more failed more weaker was is past all (DueWrite.idle none) = DueWrite.idle none
+due_write_more failed more weaker was is past all (DueWrite.writes act some write settles) = DueWrite.writes act some write settles
+due_write_more failed more weaker was is past all (DueWrite.faults some fault) = DueWrite.faults some (weaker (current was (ours past)).number fault)
