@@ -11,3 +11,4 @@ pub mod Becoming
 pub mod Turning
 pub mod Loading
 pub mod Pieces
+pub mod Runs

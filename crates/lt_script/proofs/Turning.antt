@@ -114,7 +114,7 @@ turned_trace event old new turns = turned (λ e a b. b.trace ≡ event_tells e a
 
 -- an event less is left
 
-skip_left : (sides : List Side) (steps : List Step) → events_left (skip sides steps) ≤ events_left steps
+pub skip_left : (sides : List Side) (steps : List Step) → events_left (skip sides steps) ≤ events_left steps
 skip_left sides [] = le_refl 0
 skip_left sides (first ∷ steps) = grind (arith, skip_left sides steps)
 
@@ -126,6 +126,13 @@ step_uses (step.Accept peer local) rest links = omega arith
 step_uses (step.Bytes name bytes) rest links = omega arith
 step_uses (step.End name) rest links = omega arith
 step_uses (step.Take name size count) rest links = lowers name size count rest
+
+-- an event takes nothing back
+pub step_less : (first : Step) (rest : List Step) → events_left (less first rest) ≤ events_left (first ∷ rest)
+step_less (step.Accept peer local) rest = omega arith
+step_less (step.Bytes name bytes) rest = omega arith
+step_less (step.End name) rest = omega arith
+step_less (step.Take name size count) rest = omega (arith, lowers name size count rest)
 
 uses_more : (first : Step) (links few many now : ℕ) → few ≤ many → UsesEvent (event_of first links) few now → UsesEvent (event_of first links) many now
 uses_more (step.Accept peer local) links few many now more uses = omega arith

@@ -8,6 +8,7 @@ use Rattle.lt_script.specs.Fields.{after}
 use Rattle.lt_script.specs.Lines.{line_of}
 use Rattle.lt_script.specs.declared.script.TheConstants.{MOST_BYTES}
 use Rattle.lt_script.specs.Scripts.{with_first, with_line, script_from, script_in, is_nothing, is_head, script_of, GivesScript}
+use Rattle.lt_script.specs.Laws.{OneScript}
 use Rattle.lt_script.specs.Texts.{lines_of, first, AreLines, gathered, Spells, NoLine, IsBadAt, IsBadFrom, IsBadLine, OnLineError, IsRead, IsRefusedAt}
 use Rattle.lt_script.proofs.Again.{line_again}
 use Rattle.lt_script.proofs.Fronts.{after_takes}
@@ -163,3 +164,7 @@ is_refused (Ok read) bytes bad gives short is = no_bad_line bytes read bad (scri
 is_refused (Err error.NoMemory) bytes bad gives short is = tt
 is_refused (Err error.TooLong) bytes bad gives short is = absurd (omega arith)
 is_refused (Err (error.Line number)) bytes bad gives short is = one_bad_line bytes number bad (script_bad bytes number gives.1) is
+
+-- a text spells one script
+pub one_script : OneScript
+one_script bytes a b spells_a spells_b = let first = script_again bytes a spells_a in let second = script_again bytes b spells_b in cc (first, second)

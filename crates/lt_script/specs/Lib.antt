@@ -20,3 +20,4 @@ pub mod NetView
 pub mod Later
 pub mod Loads
 pub mod Reports
+pub mod Laws

@@ -4,6 +4,7 @@
 #![tactic(auto)]
 
 mod fields;
+mod laws;
 mod lines;
 mod links;
 mod load;
