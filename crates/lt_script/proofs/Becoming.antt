@@ -1,5 +1,5 @@
 -- What a link becomes by each act.
-use Rattle.std.proofs.Common.{◌≡◌, ℕ, zero, suc, ◌+◌, ◌-◌, ◌<◌, ◌≤◌, min, Bool, true, false, List, [], ◌∷◌, ◌++◌, length, take, drop, get_or, set, map, refl, ap, sym, ◌∙◌, arith, append-nil, length-append, length-take, length-drop, Some}
+use Rattle.std.proofs.Common.{◌≡◌, ℕ, zero, suc, ◌-◌, ◌<◌, ◌≤◌, min, Bool, true, false, List, [], ◌∷◌, ◌++◌, length, take, drop, get_or, set, refl, ap, sym, ◌∙◌, arith, append-nil, length-append, length-take, length-drop, Some}
 use Rattle.std.proofs.lemmas.List.{take_min, take_all, length-map}
 use Rattle.std.proofs.Math.Seq.{drop-append_seam}
 use Rattle.lt_world.specs.declared.net.Address.{Address}
@@ -7,12 +7,12 @@ use Rattle.lt_world.specs.declared.net.Owner.{Owner}
 use Rattle.lt_world.specs.declared.net.Ending.{Ending}
 use Rattle.lt_world.specs.declared.net.Got.{Got}
 use Rattle.lt_world.specs.declared.net.Got.TheVariants as got
-use Rattle.lt_world.specs.Trace.{Act, Read, ReadEnd, NotYet, Failed, Reading, own}
+use Rattle.lt_world.specs.Trace.{Act, Read, own}
 use Rattle.lt_world.specs.Answers.{read_act, GotWithin}
 use Rattle.lt_script.specs.declared.notes.Done.{Done}
 use Rattle.lt_script.specs.declared.notes.Done.TheVariants as done
 use Rattle.lt_script.specs.declared.links.Links.TheInside.{Inside}
-use Rattle.lt_script.specs.Sides.{Side, side_at, no_side, unread, some_read, gives, with_bytes, with_end, with_close, with_read}
+use Rattle.lt_script.specs.Sides.{Side, some_read, gives, with_bytes, with_end, with_close, with_read}
 use Rattle.lt_script.specs.Calls.{some_taken}
 use Rattle.lt_script.specs.Kept.{Kept, kept_at, no_kept}
 use Rattle.lt_script.specs.Noted.{read_done, write_done}

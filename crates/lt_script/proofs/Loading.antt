@@ -1,5 +1,5 @@
 -- What a script that is spelled is loaded with.
-use Rattle.std.proofs.Common.{◌≡◌, ℕ, true, zero, suc, ◌<◌, List, [], ◌∷◌, length, drop, get_or, refl, ap, sym, subst, arith}
+use Rattle.std.proofs.Common.{◌≡◌, ℕ, true, zero, suc, List, [], ◌∷◌, drop, ap, sym, subst, arith}
 use Rattle.lt_world.specs.Memory.{is_path}
 use Rattle.lt_script.specs.declared.script.Script.{Script}
 use Rattle.lt_script.specs.declared.script.ScriptFile.{ScriptFile}
@@ -8,7 +8,7 @@ use Rattle.lt_script.specs.declared.script.Step.{Step}
 use Rattle.lt_script.specs.declared.lines.Line.{Line}
 use Rattle.lt_script.specs.declared.lines.Line.TheVariants.{Skip, File, Step as StepLine}
 use Rattle.lt_script.specs.Grammar.{IsLine}
-use Rattle.lt_script.specs.Texts.{AreLines, first, gathered, Spells}
+use Rattle.lt_script.specs.Texts.{AreLines, gathered, Spells}
 use Rattle.lt_script.specs.Loads.{path_of, AreRooted}
 use Rattle.lt_script.specs.Steps.{rest_of}
 use Rattle.lt_script.specs.Playing.{Playing, unplayed}

@@ -1,14 +1,13 @@
 -- Notes of a net: what they stand for stays as the links' bytes grow.
-use Rattle.std.proofs.Common.{◌≡◌, ℕ, zero, suc, Some, None, ◌+◌, ◌-◌, ◌<◌, ◌≤◌, max, Bool, true, false, List, [], ◌∷◌, ◌++◌, length, take, drop, get_or, set, map, reverse, refl, ap, sym, subst, ◌∙◌, arith, append_assoc, append-nil, if◌then◌else◌, ◌==◌, length-append, length-drop}
+use Rattle.std.proofs.Common.{◌≡◌, ℕ, zero, suc, Some, None, ◌+◌, ◌<◌, ◌≤◌, max, Bool, true, false, List, [], ◌∷◌, ◌++◌, length, take, drop, set, map, reverse, refl, ap, sym, subst, ◌∙◌, arith, append-nil, if◌then◌else◌, ◌==◌, length-append, length-drop}
 use Rattle.std.proofs.lemmas.Bool.Decides.{nat_tests}
-use Rattle.std.proofs.lemmas.List.{take-append-le, drop-append-le, map-append, reverse-append, get_or-set_same, get_or-set_other, map-set, length-map}
-use Rattle.std.proofs.Math.ListN.{get_or-map, length-set}
+use Rattle.std.proofs.lemmas.List.{take-append-le, drop-append-le, map-append, reverse-append, get_or-set_same, get_or-set_other}
+use Rattle.std.proofs.Math.ListN.{length-set}
 use Rattle.lt_world.specs.declared.net.Address.{Address}
 use Rattle.lt_world.specs.Trace.{Act, Entry, Accepted, Readable, Writable, Read, ReadEnd, NotYet, Failed, Wrote, Connect, Close, own, names, dials, link_bound, dial_bound, said}
 use Rattle.lt_script.specs.declared.notes.Done.{Done}
 use Rattle.lt_script.specs.declared.notes.Done.TheVariants as done
 use Rattle.lt_script.specs.declared.notes.Note.{Note}
-use Rattle.lt_script.specs.Sides.{Side, side_at, no_side}
 use Rattle.lt_script.specs.Kept.{Kept, kept_at, fresh_kept, no_kept}
 use Rattle.lt_script.specs.Notes.{act_of, entry_of, trace_of, fits, AreWithin, IsTold}
 use Rattle.lt_script.specs.Views.{output_of, ending_of}

@@ -1,5 +1,5 @@
 -- Numbers: what `decimal` writes is read, and what is read is what `decimal` writes.
-use Rattle.std.proofs.Common.{◌≡◌, ℕ, suc, zero, ◌+◌, ◌^◌, ◌<◌, ◌≤◌, Bool, true, false, ◌&&◌, List, [], ◌∷◌, ◌++◌, length, take, drop, get_or, refl, ap, sym, subst, ◌∙◌, arith, Option, Some, None, option_map, if◌then◌else◌, ◌==◌, nat_lt, nat_le, take-append-drop, append-nil}
+use Rattle.std.proofs.Common.{◌≡◌, ℕ, suc, zero, ◌+◌, ◌^◌, ◌<◌, ◌≤◌, Bool, true, false, ◌&&◌, List, [], ◌∷◌, ◌++◌, length, take, drop, get_or, refl, ap, sym, subst, ◌∙◌, arith, Option, Some, None, option_map, if◌then◌else◌, nat_lt, nat_le, take-append-drop, append-nil}
 use Rattle.std.specs.Char.{digit_value, is_ascii_digit}
 use Rattle.std.specs.List.{prefix_len, list_all}
 use Rattle.std.specs.Fmt.{decimal}
@@ -11,7 +11,7 @@ use Rattle.std.proofs.lemmas.Str.Parse.{numerals_by_value, tells_digits}
 use Rattle.std.proofs.Math.Seq.{take-append_seam, drop-append_seam}
 use Rattle.lt_bytes.specs.declared.numbers.Number.{Number}
 use Rattle.lt_bytes.specs.declared.numbers.Number.TheVariants.{Value, NotANumber, Overflow}
-use Rattle.lt_bytes.specs.Numbers.{is_digit, are_digits, fitting, number_of}
+use Rattle.lt_bytes.specs.Numbers.{is_digit, fitting, number_of}
 use Rattle.lt_script.specs.Fields.{digits_len, leads_zero, within, numeral_of, number_at}
 
 -- a digit by its value

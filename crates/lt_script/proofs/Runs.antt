@@ -1,23 +1,22 @@
 -- Whole runs of a script.
-use Rattle.std.proofs.Common.{◌≡◌, ℕ, zero, suc, ◌+◌, ◌-◌, ◌<◌, ◌≤◌, min, max, Bool, true, false, List, [], ◌∷◌, ◌++◌, length, take, drop, get_or, set, refl, ap, sym, subst, ◌∙◌, arith, le_refl, append_assoc, append-nil, take-append-drop, length-append, length-drop, None, if◌then◌else◌, ◌==◌, nat_lt}
+use Rattle.std.proofs.Common.{◌≡◌, ℕ, zero, suc, ◌+◌, ◌-◌, ◌<◌, ◌≤◌, min, Bool, true, false, List, [], ◌∷◌, ◌++◌, length, take, drop, refl, ap, sym, subst, ◌∙◌, arith, le_refl, append_assoc, append-nil, take-append-drop, length-append, length-drop, None, if◌then◌else◌, ◌==◌, nat_lt}
 use Rattle.std.proofs.lemmas.Bool.Decides.{nat_tests}
 use Rattle.std.proofs.lemmas.List.{get_or-set_same, get_or-set_other, get_or_past, set_past, take-append-le, take_min}
 use Rattle.lt_world.specs.Trace.{Act, Entry, Accepted, Readable, Writable, Connect, Close, Extends, own}
 use Rattle.lt_script.specs.declared.script.Step.{Step}
 use Rattle.lt_script.specs.declared.script.Step.TheVariants as step
 use Rattle.lt_script.specs.Sides.{Side, side_at, no_side, fresh_side, unread, some_read, gives, with_read, with_bytes, with_end, with_close}
-use Rattle.lt_script.specs.Steps.{allowed, change, skip, less, count_of, events_of, events_left, link_of, sides_after, event_of}
+use Rattle.lt_script.specs.Steps.{allowed, change, skip, events_left, link_of}
 use Rattle.lt_script.specs.Views.{input_of}
 use Rattle.lt_script.specs.Calls.{Game, Call, Next, Reads, Writes, Connects, Closes, start, after, begin, tell, takes, some_taken}
-use Rattle.lt_script.specs.Plays.{played, Plays}
-use Rattle.lt_script.specs.Playing.{Playing, IsLater}
+use Rattle.lt_script.specs.Plays.{played}
 use Rattle.lt_script.specs.Laws.{LaterPlays, LaterGrows, GivenIsRead, NoneLeft}
 use Rattle.lt_script.proofs.Turning.{skip_left, step_less}
 
 pub plays_later : LaterPlays
 plays_later a b new later =
     let same : b.game ≡ played later.calls (start b.script) =
-          later.plays ∙ ap (λ (g : Game). played later.calls g) (new ∙ ap start (sym later.same)) in
+    later.plays ∙ ap (λ (g : Game). played later.calls g) (new ∙ ap start (sym later.same)) in
     record { calls = later.calls; told = ap (λ (g : Game). g.trace) (sym same); rest = ap (λ (g : Game). g.left) (sym same) }
 
 pub none_left : NoneLeft
@@ -88,6 +87,7 @@ change_by true sides link other f acts test keeps front = here (nat_lt link (len
   where
     same : other ≡ link
     same = grind (arith, nat_tests, test)
+
     here : (u : Bool) → nat_lt link (length sides) ≡ u → FrontRead (side_at other (change link f sides)) acts
     here true below =
         let inside : link < length sides = grind (arith, nat_tests, below) in
@@ -171,6 +171,7 @@ reads_by true game link other size test all = subst (λ (k : ℕ). FrontRead (si
   where
     same : link ≡ other
     same = grind (arith, nat_tests, test)
+
     here : (u : Bool) → nat_lt link (length game.sides) ≡ u → FrontRead (side_at link (change link (with_read size) game.sides)) (gives size (side_at link game.sides) ∷ own link game.trace)
     here true below =
         let inside : link < length game.sides = grind (arith, nat_tests, below) in

@@ -16,7 +16,7 @@ use Rattle.lt_script.specs.Fields.{number_at, name_at, address_at, octet_at, end
 use Rattle.lt_script.specs.Lines.{line_of, ended, on, accept_of, data_of, end_of, take_of, file_of, fill_of}
 use Rattle.lt_script.specs.Grammar.{name_text, IsName, address_text, IsAddress, IsLine}
 use Rattle.lt_script.proofs.Fronts.{after_takes}
-use Rattle.lt_script.proofs.Numbers.{ReadsNumber, number_takes}
+use Rattle.lt_script.proofs.Numbers.{number_takes}
 use Rattle.lt_script.proofs.Quoted.{quoted_takes}
 
 bound : {A B : Type 0} (o : Option A) (f : A → Option B) (y : B) → option_and_then f o ≡ Some y → (x : A) × (o ≡ Some x) × (f x ≡ Some y)

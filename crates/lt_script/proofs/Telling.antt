@@ -1,19 +1,18 @@
 -- What the links tell after a change.
-use Rattle.std.proofs.Common.{◌≡◌, ℕ, zero, suc, ◌+◌, ◌-◌, ◌<◌, ◌≤◌, min, Bool, true, false, List, [], ◌∷◌, ◌++◌, length, get_or, set, map, refl, ap, sym, subst, ◌∙◌, arith, ◌==◌, vec_len, vec_capacity}
+use Rattle.std.proofs.Common.{◌≡◌, ℕ, zero, suc, ◌+◌, ◌-◌, ◌<◌, ◌≤◌, Bool, true, false, List, [], ◌∷◌, ◌++◌, length, get_or, set, map, refl, ap, sym, subst, ◌∙◌, arith, ◌==◌, vec_len, vec_capacity}
 use Rattle.std.proofs.lemmas.List.{get_or-set_same, get_or-set_other, set-get_or, map-set, map-append, length-map}
-use Rattle.std.proofs.Math.ListN.{get_or-map, length-set}
+use Rattle.std.proofs.Math.ListN.{get_or-map}
 use Rattle.std.proofs.lemmas.Bool.Decides.{nat_tests}
 use Rattle.lt_world.specs.declared.net.Address.{Address}
-use Rattle.lt_world.specs.Trace.{Act, Entry, Accepted, own, said}
+use Rattle.lt_world.specs.Trace.{Act, Accepted, said}
 use Rattle.lt_script.specs.declared.notes.Done.{Done}
 use Rattle.lt_script.specs.declared.notes.Done.TheVariants as done
-use Rattle.lt_script.specs.declared.notes.Note.{Note}
 use Rattle.lt_script.specs.declared.links.Links.TheInside.{Inside}
 use Rattle.lt_script.specs.Sides.{Side, side_at, no_side, fresh_side}
 use Rattle.lt_script.specs.Steps.{change}
 use Rattle.lt_script.specs.Kept.{Kept, kept_at, fresh_kept, no_kept}
 use Rattle.lt_script.specs.Notes.{act_of, trace_of, told_of, IsTold}
-use Rattle.lt_script.specs.Told.{Told, Tells, Stays}
+use Rattle.lt_script.specs.Told.{Told, Tells}
 use Rattle.lt_script.proofs.Noting.{Grows, trace_set, trace_push}
 
 pub sides_at : (ports : List Kept) (link : ℕ) → side_at link (map (λ kept. kept.side) ports) ≡ (kept_at link ports).side

@@ -1,7 +1,6 @@
 -- What an event makes of the game, and of what a net tells.
-use Rattle.std.proofs.Common.{◌≡◌, ℕ, zero, suc, ◌+◌, ◌-◌, ◌<◌, ◌≤◌, if◌then◌else◌, nat_lt, max, Bool, true, false, List, [], ◌∷◌, ◌++◌, length, drop, get_or, set, refl, ap, sym, subst, ◌∙◌, arith, le_refl, length-append, Option, Some, None}
+use Rattle.std.proofs.Common.{◌≡◌, ℕ, zero, suc, ◌+◌, ◌-◌, ◌<◌, ◌≤◌, if◌then◌else◌, nat_lt, max, Bool, true, false, List, [], ◌∷◌, length, refl, ap, sym, subst, ◌∙◌, arith, le_refl, length-append}
 use Rattle.std.proofs.lemmas.Bool.Decides.{nat_tests}
-use Rattle.std.proofs.lemmas.List.{drop_more}
 use Rattle.std.proofs.Math.ListN.{length-set}
 use Rattle.lt_world.specs.declared.net.Event.{Event}
 use Rattle.lt_world.specs.declared.net.Event.TheVariants.{Arrived, Readable, Writable, Idle, Over, NoMemory}
@@ -10,9 +9,8 @@ use Rattle.lt_world.specs.Trace.{Entry, names}
 use Rattle.lt_script.specs.declared.script.Name.{Name}
 use Rattle.lt_script.specs.declared.script.Step.{Step}
 use Rattle.lt_script.specs.declared.script.Step.TheVariants as step
-use Rattle.lt_script.specs.declared.steps.Taker.{Taker}
-use Rattle.lt_script.specs.Sides.{Side, side_at, no_side, fresh_side}
-use Rattle.lt_script.specs.Steps.{link_of, is_open_at, is_due, skip, event_of, sides_after, taker_of, less, count_of, events_of, events_left, lowered, rest_of}
+use Rattle.lt_script.specs.Sides.{Side, side_at, fresh_side}
+use Rattle.lt_script.specs.Steps.{link_of, is_due, skip, event_of, sides_after, taker_of, less, events_left, lowered, rest_of}
 use Rattle.lt_script.specs.Calls.{Game, Call, Next, Turns, answer_of, begin, after}
 use Rattle.lt_script.specs.Playing.{Playing, IsLater}
 

@@ -1,5 +1,5 @@
 -- The text of a script: what is spelled so is read, and what is read is spelled so.
-use Rattle.std.proofs.Common.{◌≡◌, ◌<◌, subst, IfOk, IfErr, ℕ, ◌+◌, ◌≤◌, Bool, true, false, List, [], ◌∷◌, length, refl, ap, sym, ◌∙◌, arith, Option, Some, None, Result, Ok, Err, if◌then◌else◌, codes, inl, inr}
+use Rattle.std.proofs.Common.{◌≡◌, subst, IfOk, IfErr, ℕ, ◌+◌, ◌≤◌, Bool, true, false, List, [], ◌∷◌, length, refl, ap, sym, ◌∙◌, arith, Option, Some, None, Result, Ok, Err, if◌then◌else◌, codes, inl, inr}
 use Rattle.lt_script.specs.declared.script.Script.{Script}
 use Rattle.lt_script.specs.declared.lines.Line.{Line}
 use Rattle.lt_script.specs.declared.script.ScriptError.{ScriptError}
@@ -9,7 +9,7 @@ use Rattle.lt_script.specs.Lines.{line_of}
 use Rattle.lt_script.specs.declared.script.TheConstants.{MOST_BYTES}
 use Rattle.lt_script.specs.Scripts.{with_first, with_line, script_from, script_in, is_nothing, is_head, script_of, GivesScript}
 use Rattle.lt_script.specs.Laws.{OneScript}
-use Rattle.lt_script.specs.Texts.{lines_of, first, AreLines, gathered, Spells, NoLine, IsBadAt, IsBadFrom, IsBadLine, OnLineError, IsRead, IsRefusedAt}
+use Rattle.lt_script.specs.Texts.{lines_of, first, AreLines, gathered, Spells, IsBadAt, IsBadFrom, IsBadLine, OnLineError, IsRead, IsRefusedAt}
 use Rattle.lt_script.proofs.Again.{line_again}
 use Rattle.lt_script.proofs.Fronts.{after_takes}
 use Rattle.lt_script.proofs.Taken.{line_takes}

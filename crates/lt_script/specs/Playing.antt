@@ -1,5 +1,5 @@
 -- What is known of a net that plays a script.
-use Rattle.std.specs.Prelude.{◌≡◌, ℕ, List, [], None}
+use Rattle.std.specs.Prelude.{◌≡◌, ℕ, List}
 use Rattle.lt_world.specs.declared.net.NextKind.{NextKind}
 use Rattle.lt_world.specs.declared.net.NextKind.TheVariants.{NoneYet}
 use Rattle.lt_script.specs.declared.script.Step.{Step}

@@ -1,8 +1,6 @@
 -- What is kept for one link.
-use Rattle.std.specs.Prelude.{ℕ, ◌-◌, ◌≤◌, List, [], length, get_or, Option, None, is_none, vec_len, vec_capacity}
-use Rattle.lt_world.specs.declared.net.Ending.{Ending}
+use Rattle.std.specs.Prelude.{◌-◌, ◌≤◌, length, is_none, vec_len, vec_capacity}
 use Rattle.lt_script.specs.declared.port.Port.TheInside.{Inside}
-use Rattle.lt_script.specs.Sides.{Side, no_side}
 use Rattle.lt_script.specs.Kept.{Kept}
 
 abbrev pub kept_of : Inside → Kept

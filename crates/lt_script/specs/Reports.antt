@@ -1,5 +1,5 @@
 -- The report of a trace.
-use Rattle.std.specs.Prelude.{◌≡◌, ℕ, zero, suc, List, [], ◌∷◌, ◌++◌, length, codes, Result, Ok, Err, Option, Some, None}
+use Rattle.std.specs.Prelude.{◌≡◌, ℕ, zero, suc, List, [], ◌++◌, length, codes, Result, Ok, Err, Option, Some, None}
 use Rattle.std.specs.Fmt.{decimal}
 use Rattle.lt_bytes.specs.Quoting.{quoted}
 use Rattle.lt_world.specs.Trace.{Entry, own, link_bound}

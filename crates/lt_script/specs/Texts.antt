@@ -1,5 +1,5 @@
 -- The grammar of a script's text.
-use Rattle.std.specs.Prelude.{◌≡◌, ℕ, ◌+◌, ◌<◌, ◌≤◌, List, [], ◌∷◌, length, ◌⊎◌, codes, Result, Ok, Err, if◌then◌else◌, ◌==◌}
+use Rattle.std.specs.Prelude.{◌≡◌, ℕ, ◌+◌, ◌<◌, List, [], ◌∷◌, length, ◌⊎◌, codes, Result, Ok, Err, if◌then◌else◌, ◌==◌}
 use Rattle.lt_script.specs.declared.script.Script.{Script}
 use Rattle.lt_script.specs.declared.script.ScriptError.{ScriptError}
 use Rattle.lt_script.specs.declared.script.ScriptError.TheVariants as error
@@ -55,11 +55,6 @@ IsBadFrom (head ∷ lines) last bad = ((bad ≡ 1) × (head ≡ codes "lighttpd-
 -- the first line of a text that is outside the grammar
 abbrev pub IsBadLine : List ℕ → ℕ → Type 0
 IsBadLine bytes bad = IsBadFrom (lines_of bytes).0 (lines_of bytes).1 bad
-
--- the answer that names this line
-abbrev pub IsLineError : ScriptError → ℕ → Type 0
-IsLineError (error.Line number) bad = number ≡ bad
-IsLineError other bad = ⊥
 
 -- where a refusal names a line, it is this fact's line
 abbrev pub OnLineError : ScriptError → (ℕ → Type 0) → Type 0

@@ -1,6 +1,8 @@
-//! A script is a recorded run: the files that are there, and what clients send and when they can be
-//! written to. `parse_script` reads its text, `ScriptNet` plays it as a net, and `report` says what
-//! each link took.
+//! A script is a recorded run: the files that are there, which clients arrive, what they send, and when how much may
+//! be written to them. `parse_script` reads its text, `ScriptNet` plays it as a net in memory, `report` says what each
+//! link took. Promised: the reader takes exactly the texts of the grammar, and names the first line that is outside;
+//! each call of the net does just what the script says, so that its trace is at every moment one that the script plays.
+//! Stands on `lt_bytes` and `lt_world`.
 #![tactic(auto)]
 
 mod fields;
@@ -23,3 +25,6 @@ pub use net::{ScriptNet, report};
 pub use parse::parse_script;
 pub use script::{MOST_BYTES, Name, Script, ScriptError, ScriptFile, Step};
 pub use writing::write_all;
+
+#[cfg(test)]
+mod tests;

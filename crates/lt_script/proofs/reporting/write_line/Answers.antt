@@ -1,4 +1,4 @@
-use Rattle.std.proofs.Common.{◌≡◌, ◌++◌, length, codes, ap, ◌∙◌}
+use Rattle.std.proofs.Common.{◌++◌, length, codes, ◌∙◌}
 use Rattle.std.proofs.lemmas.Result.{err_from_is_err_and}
 use Rattle.lt_bytes.specs.Quoting.{quoted}
 use Rattle.lt_script.specs.Reports.{front_of}

@@ -1,5 +1,4 @@
-use Rattle.std.proofs.Common.{arith, ap, drop, sym, ◌∙◌, length-drop}
-use Rattle.lt_script.specs.declared.script.Step.{Step}
+use Rattle.std.proofs.Common.{arith, ap, drop, ◌∙◌, length-drop}
 use Rattle.lt_script.proofs.Turning.{skip_here, skip_later}
 use Rattle.lt_script.proofs.steps.due_from.Goals as goal
 

@@ -1,4 +1,4 @@
-use Rattle.std.proofs.Common.{arith, refl, ap, sym, ◌<◌, length, ◌∙◌}
+use Rattle.std.proofs.Common.{arith, refl}
 use Rattle.lt_script.specs.declared.links.Links.TheInside.{Inside}
 use Rattle.lt_script.specs.declared.notes.Done.TheVariants as done
 use Rattle.lt_script.specs.Kept.{Kept, kept_at}

@@ -1,4 +1,4 @@
-use Rattle.std.proofs.Common.{arith, refl, sym}
+use Rattle.std.proofs.Common.{sym}
 use Rattle.std.proofs.lemmas.List.{set-get_or}
 use Rattle.lt_world.specs.Trace.{own}
 use Rattle.lt_script.specs.declared.links.Links.TheInside.{Inside}

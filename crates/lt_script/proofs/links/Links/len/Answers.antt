@@ -1,6 +1,4 @@
-use Rattle.std.proofs.Common.{arith, ap}
-use Rattle.lt_script.specs.Told.{Told}
-use Rattle.lt_world.specs.Trace.{link_bound, names}
+use Rattle.std.proofs.Common.{arith}
 use Rattle.lt_script.proofs.Noting.{unnamed}
 use Rattle.lt_script.proofs.links.Links.len.Goals as goal
 

@@ -1,4 +1,4 @@
-use Rattle.std.proofs.Common.{◌≡◌, ◌<◌, ◌≤◌, ◌++◌, length, take, set, arith, length-take, refl, ap, ◌∙◌, ℕ}
+use Rattle.std.proofs.Common.{◌≡◌, ◌<◌, ◌++◌, length, take, set, arith, refl, ap, ◌∙◌}
 use Rattle.lt_world.specs.Trace.{own}
 use Rattle.lt_script.specs.declared.links.Links.TheInside.{Inside}
 use Rattle.lt_script.specs.Noted.{write_done}

@@ -1,4 +1,4 @@
-use Rattle.std.proofs.Common.{refl, length}
+use Rattle.std.proofs.Common.{refl}
 use Rattle.lt_script.specs.Calls.{Connects}
 use Rattle.lt_script.proofs.Turning.{by_call}
 use Rattle.lt_script.proofs.net.ScriptNetNet.connect.Goals as goal
