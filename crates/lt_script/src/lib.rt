@@ -6,7 +6,7 @@
 #![tactic(auto)]
 
 mod fields;
-mod laws;
+pub mod laws;
 mod lines;
 mod links;
 mod load;

@@ -70,14 +70,15 @@ impl ScriptNet {
         }
     }
 
-    /// Takes the steps of a script, and puts its files where they are found. Where memory is wanted, the net and the
-    /// files are given up.
+    /// Takes the steps of a script, and puts its files where they are found. Where memory is wanted, some of the files
+    /// may be there, and the net stands as it was.
     pub fn load(&mut self, script: &Script, files: &mut MemFiles) -> Result<(), NoMemory>
         requires new { self.old ≡ unplayed [] }
         requires spelled { (bytes : List ℕ) × Spells bytes script.now }
         ensures plays { OnOk result (self.new ≡ unplayed script.now.steps) }
         ensures tree { OnOk result (tree_of files.new ≡ planted script.now.files (tree_of files.old)) }
         ensures rest { files.new ≡ record files.old { places = files.new.places } }
+        ensures err { OnErr result (self.new ≡ self.old) }
         ensures unasked { self.new.last ≡ self.old.last }
     {
         plant(self.alloc, script.files.as_slice(), files)?;
