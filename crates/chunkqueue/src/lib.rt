@@ -34,6 +34,8 @@ pub type Chunks = PlainQueue;
 pub type Store = PlainStore;
 
 #[cfg(test)]
+mod both_tests;
+#[cfg(test)]
 mod pooled_tests;
 #[cfg(test)]
 mod tests;
