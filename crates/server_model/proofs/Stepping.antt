@@ -85,7 +85,7 @@ module _ (From Mid : Table → World → Held → List Act → Type 0) (due : Wo
 
 -- the same step, by what is due in another way, and from a disk that is the same where files tell
 module _ (From : Table → World → Held → List Act → Type 0) (due rest : World → World → List Deed → List Deed → Type 0) (root : List ℕ) (held new : Held) (net files : Type 0) (other before after : Disk) (old now : List Entry)
-    (dues : (was is : World) (past all : List Deed) → due was is past all → rest was is past all) (same : files → other ≡ before) where
+    (dues : files → (was is : World) (past all : List Deed) → due was is past all → rest was is past all) (same : files → other ≡ before) where
   pub same_steps : (next : Option Held) → StepsBy From due root held next net files before after old now → StepsBy From rest root held next net files other after old now
   same_steps next s = record {
     deeds = s.deeds;
@@ -96,7 +96,7 @@ module _ (From : Table → World → Held → List Act → Type 0) (due rest : W
     keeps = λ f past start.
         let P : Disk → Type 0 = λ d. From d.table (world_of root d held.link) held (ours past) → StandsFor after.table (world_of root after held.link) next (s.deeds ++ past) × due (world_of root d held.link) (world_of root after held.link) past (s.deeds ++ past) in
         let both = subst P (sym (same f)) (s.keeps f past) start in
-        (both.0, dues (world_of root other held.link) (world_of root after held.link) past (s.deeds ++ past) both.1);
+        (both.0, dues f (world_of root other held.link) (world_of root after held.link) past (s.deeds ++ past) both.1);
   }
 
   pub same_stops : (e : Ending) → StopsBy From due root held new e net files before after old now → StopsBy From rest root held new e net files other after old now
@@ -110,7 +110,7 @@ module _ (From : Table → World → Held → List Act → Type 0) (due rest : W
         let P : Disk → Type 0 = λ d. From d.table (world_of root d held.link) held (ours past)
         → IsRight (world_of root after held.link) (ours (s.deeds ++ past)) × (e ≡ ending.Clean → IsFinished (world_of root after held.link) (ours (s.deeds ++ past))) × due (world_of root d held.link) (world_of root after held.link) past (Ours (Close e) ∷ s.deeds ++ past) in
         let all = subst P (sym (same f)) (s.keeps f past) start in
-        (all.0, all.1, dues (world_of root other held.link) (world_of root after held.link) past (Ours (Close e) ∷ s.deeds ++ past) all.2);
+        (all.0, all.1, dues f (world_of root other held.link) (world_of root after held.link) past (Ours (Close e) ∷ s.deeds ++ past) all.2);
   }
 
   pub same_goes : (result : Option Ending) → GoesBy From due root held new result net files before after old now → GoesBy From rest root held new result net files other after old now
