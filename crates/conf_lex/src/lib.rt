@@ -16,3 +16,6 @@ mod token;
 pub use error::LexError;
 pub use lexer::lex;
 pub use token::{Token, TokenKind, signs};
+
+#[cfg(test)]
+mod tests;

@@ -6,7 +6,7 @@
 #![tactic(auto)]
 
 mod error;
-mod laws;
+pub mod laws;
 mod machine;
 mod parser;
 mod printer;
@@ -18,7 +18,9 @@ mod tree;
 mod value;
 
 pub use error::ParseError;
-pub use laws::{one_tree, printed_is_reread};
 pub use parser::{MAX_NESTING, parse};
 pub use statements::print;
 pub use tree::{Branch, Item, RawCondition, Statement, Term, Tree, What};
+
+#[cfg(test)]
+mod tests;
