@@ -57,6 +57,17 @@ low_sort sort other b e = low_class b (λ z. let q = ap sort z in absurd cc)
 
 -- ---- the bytes of single classes
 
+pub feed_10 : (b : ℕ) → class b ≡ c.Feed → b ≡ 10
+feed_10 b e = eqb-true b 10 (hit (b == 10) c.Feed _ c.Feed e (λ h.
+    let h0 = skip (b == 32 || b == 9 || b == 13) c.Blank _ c.Feed (λ z. cc) h in let h1 = skip (b == 35) c.Hash _ c.Feed (λ z. cc) h0 in let h2 = skip ((nat_le 97 b && nat_le b 122) || (nat_le 65 b && nat_le b 90)) c.Letter _ c.Feed (λ z. cc) h1 in
+    let h3 = skip (nat_le 48 b && nat_le b 57) c.Digit _ c.Feed (λ z. cc) h2 in let h4 = skip (b == 95 || b == 45 || b == 46) c.Joint _ c.Feed (λ z. cc) h3 in let h5 = skip (b == 34) c.Quote _ c.Feed (λ z. cc) h4 in
+    let h6 = skip (b == 92) c.Backslash _ c.Feed (λ z. cc) h5 in let h7 = skip (b == 61) c.Equal _ c.Feed (λ z. cc) h6 in let h8 = skip (b == 43) c.Plus _ c.Feed (λ z. cc) h7 in
+    let h9 = skip (b == 33) c.Not _ c.Feed (λ z. cc) h8 in let h10 = skip (b == 62) c.Greater _ c.Feed (λ z. cc) h9 in let h11 = skip (b == 126) c.Tilde _ c.Feed (λ z. cc) h10 in
+    let h12 = skip (b == 94) c.Caret _ c.Feed (λ z. cc) h11 in let h13 = skip (b == 36) c.Dollar _ c.Feed (λ z. cc) h12 in let h14 = skip (b == 44) (c.Single 4) _ c.Feed (λ z. cc) h13 in
+    let h15 = skip (b == 40) (c.Single 5) _ c.Feed (λ z. cc) h14 in let h16 = skip (b == 41) (c.Single 6) _ c.Feed (λ z. cc) h15 in let h17 = skip (b == 123) (c.Single 7) _ c.Feed (λ z. cc) h16 in
+    let h18 = skip (b == 125) (c.Single 8) _ c.Feed (λ z. cc) h17 in let h19 = skip (b == 91) (c.Single 9) _ c.Feed (λ z. cc) h18 in let h20 = skip (b == 93) (c.Single 10) c.Other c.Feed (λ z. cc) h19 in
+    cc))
+
 pub quote_34 : (b : ℕ) → class b ≡ c.Quote → b ≡ 34
 quote_34 b e = eqb-true b 34 (hit (b == 34) c.Quote _ c.Quote
     (skip _ c.Joint _ c.Quote (λ z. cc) (skip _ c.Digit _ c.Quote (λ z. cc) (skip _ c.Letter _ c.Quote (λ z. cc) (skip _ c.Hash _ c.Quote (λ z. cc) (skip _ c.Blank _ c.Quote (λ z. cc) (skip _ c.Feed _ c.Quote (λ z. cc) e))))))

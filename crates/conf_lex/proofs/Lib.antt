@@ -6,3 +6,4 @@ pub mod Numbers
 pub mod Steps
 pub mod Bytes
 pub mod Lexed
+pub mod Places

@@ -1,12 +1,15 @@
 -- What the lexer's answers say.
-use Rattle.std.specs.Prelude.{◌≡◌, ℕ, List, ◌++◌, take, Result, Ok, Err}
-use Rattle.std.specs.Str.{IsUtf8, IsValidUpTo}
+use Rattle.std.specs.Prelude.{◌≡◌, ℕ, List, ◌++◌, take, Result, Ok, Err, if◌then◌else◌}
+use Rattle.std.specs.Str.{IsUtf8, IsValidUpTo, is_utf8}
+use Rattle.std.specs.Str.Lossy.{utf8_valid_len}
 use Rattle.conf_lex.specs.declared.token.Token.{Token}
 use Rattle.conf_lex.specs.declared.held.Held.{Held}
 use Rattle.conf_lex.specs.declared.error.LexError.{LexError}
 use Rattle.conf_lex.specs.declared.error.LexError.TheVariants as e
-use Rattle.conf_lex.specs.Machine.{Step, Reply}
-use Rattle.conf_lex.specs.Tokens.{Reading, line_behind}
+use Rattle.conf_lex.specs.Lines.{line_of}
+use Rattle.conf_lex.specs.declared.held.Held.TheVariants.{Nothing}
+use Rattle.conf_lex.specs.Machine.{Step, Reply, run}
+use Rattle.conf_lex.specs.Tokens.{Reading}
 
 -- a step's answer: the tokens that the byte ended stand behind the earlier ones
 abbrev pub Steps : Step → List Token → Result Held LexError → List Token → Type 0
@@ -28,6 +31,20 @@ IsRead ts (Err x) = x ≡ e.NoMemory
 
 -- why a text is refused: its first byte that is not UTF-8, and only where there is none its first token that is none
 abbrev pub Refused : List ℕ → LexError → Type 0
-Refused bytes (e.NotUtf8 line) = ¬ (IsUtf8 bytes) × ((n : ℕ) × IsValidUpTo bytes n × (line ≡ line_behind 1 (take n bytes)))
+Refused bytes (e.NotUtf8 line) = ¬ (IsUtf8 bytes) × ((n : ℕ) × IsValidUpTo bytes n × (line ≡ line_of (take n bytes)))
 Refused bytes (e.Grammar line) = IsUtf8 bytes × Reading 1 bytes (Err line)
 Refused bytes e.NoMemory = Unit {0}
+
+-- ---- the answer as a function of the text
+
+abbrev pub given : Reply → Result (List Token) LexError
+given (Ok ts) = Ok ts
+given (Err line) = Err (e.Grammar line)
+
+abbrev pub lexed : List ℕ → Result (List Token) LexError
+lexed bytes = if is_utf8 bytes then given (run bytes 1 Nothing) else Err (e.NotUtf8 (line_of (take (utf8_valid_len bytes) bytes)))
+
+-- the answer is this one, unless memory ran out
+abbrev pub IsAnswer : Result (List Token) LexError → Result (List Token) LexError → Type 0
+IsAnswer (Err e.NoMemory) answer = Unit {0}
+IsAnswer given answer = answer ≡ given

@@ -1,9 +1,10 @@
 //! The whole text.
 ghost use Rattle.std.specs.Prelude.{[], ◌≡◌, ℕ, List, IfOk, IfErr, Ok};
 ghost use Rattle.std.specs.Str.{IsUtf8};
-ghost use Rattle.conf_lex.specs.Answers.{Gives, IsRead, Refused};
+ghost use Rattle.conf_lex.specs.Answers.{Gives, IsAnswer, IsRead, Refused, lexed};
+ghost use Rattle.conf_lex.specs.Lines.{line_of};
 ghost use Rattle.conf_lex.specs.Machine as spec;
-ghost use Rattle.conf_lex.specs.Tokens.{Reading, Reads, line_behind};
+ghost use Rattle.conf_lex.specs.Tokens.{Reading, Reads};
 ghost use Rattle.conf_lex.specs.declared.held.Held.TheVariants.{Nothing};
 ghost use Rattle.conf_lex.specs.declared.token.Token.{Token};
 
@@ -29,7 +30,7 @@ fn read(alloc: Global, bytes: &[u8]) -> Result<List<Token>, LexError>
 
 /// The line behind these bytes.
 fn line_at_end(bytes: &[u8]) -> u32
-    ensures { result ≡ line_behind 1 bytes.now }
+    ensures { result ≡ line_of bytes.now }
 {
     let mut line = 1;
     for byte in bytes {
@@ -44,6 +45,8 @@ pub fn lex(alloc: Global, bytes: &[u8]) -> Result<List<Token>, LexError>
     // The tokens that the text has are the answer, unless memory runs out.
     ensures only { (ts : List Token) (m : ℕ) → IsUtf8 bytes.now → Reads 1 bytes.now ts m [] → IsRead ts result }
     ensures refused { IfErr result (λ e. Refused bytes.now e) }
+    // The same as a function of the text.
+    ensures computed { IsAnswer result (lexed bytes.now) }
 {
     match str::from_utf8(bytes) {
         Ok(_) => read(alloc, bytes),

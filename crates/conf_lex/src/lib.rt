@@ -9,6 +9,7 @@ mod class;
 mod digits;
 mod error;
 mod held;
+pub mod laws;
 mod lexer;
 mod machine;
 mod token;

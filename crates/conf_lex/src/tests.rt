@@ -1,4 +1,4 @@
-use crate::{LexError, Token, TokenKind, lex, signs};
+use crate::{LexError, Token, TokenKind, laws, lex, signs};
 use lt_bytes::{List, NoMemory, Text, decimal};
 use std::alloc::Global;
 use std::test::Fail;
@@ -83,6 +83,7 @@ fn a_refusal_names_its_line(rt: HostRuntime) {
 
 #[test]
 fn each_sign_has_its_number(rt: HostRuntime) {
+    laws::tokens_stand_on_their_lines();
     assert_eq!(rt;
         [
             signs::ASSIGN,

@@ -1,5 +1,5 @@
 -- What the machine's reply says of the tokens.
-use Rattle.std.proofs.Common.{◌≡◌, ℕ, List, [], ◌∷◌, Result, Ok, Err, refl, ◌∙◌, ap}
+use Rattle.std.proofs.Common.{◌≡◌, ℕ, List, [], ◌∷◌, Result, Ok, Err, refl, ◌∙◌, sym, ap}
 use Rattle.std.specs.Prelude.{IfOk, IfErr}
 use Rattle.conf_lex.specs.declared.token.Token.{Token}
 use Rattle.conf_parse.specs.declared.tree.Tree.{Tree}
@@ -9,7 +9,7 @@ use Rattle.conf_parse.specs.declared.error.ParseError.TheVariants as e
 use Rattle.conf_parse.specs.Symbols.{Mark, marks}
 use Rattle.conf_parse.specs.Grammar.{Spells}
 use Rattle.conf_parse.specs.Machine.{run, start, Grammar, Nested}
-use Rattle.conf_parse.specs.Answers.{Gives, IsRead, Refused, line_at}
+use Rattle.conf_parse.specs.Answers.{Gives, IsAnswer, IsRead, Refused, given, line_at, line_left, parsed}
 use Rattle.conf_parse.proofs.Complete.{file_read}
 use Rattle.conf_parse.proofs.Sound.{file_spelled}
 use Rattle.conf_parse.proofs.Refused.{refused}
@@ -27,6 +27,10 @@ same_line tokens (x ∷ a) (y ∷ b) h = ap first_line h
 
 tree_of : List Statement → Tree
 tree_of xs = record { statements = xs }
+
+left_line : (tokens rest : List Token) → line_left tokens (marks rest) ≡ line_at tokens rest
+left_line tokens [] = refl
+left_line tokens (x ∷ rest) = refl
 
 module _ (room : ℕ) (ts : List Token) where
   pub found_of : (r : Result Tree ParseError) → Gives ts r (run (marks ts) (start room)) → IfOk r (λ tree. Spells room tree ts)
@@ -51,6 +55,12 @@ module _ (room : ℕ) (ts : List Token) where
   refused_of (Err (e.Grammar line)) h = let q = refused room ts Grammar (marks h.0) h.2 in (q.0, h.1 ∙ same_line ts h.0 q.0 q.1, q.2)
   refused_of (Err (e.Deep line)) h = let q = refused room ts Nested (marks h.0) h.2 in (q.0, h.1 ∙ same_line ts h.0 q.0 q.1, q.2)
   refused_of (Err e.NoMemory) h = tt
+
+pub computed_of : (ts : List Token) (r : Result Tree ParseError) → Gives ts r (run (marks ts) (start 64)) → IsAnswer r (parsed ts)
+computed_of ts (Ok tree) h = ap (given ts) h
+computed_of ts (Err (e.Grammar line)) h = ap (given ts) h.2 ∙ ap (λ (l : ℕ). Err (e.Grammar l)) (left_line ts h.0 ∙ sym h.1)
+computed_of ts (Err (e.Deep line)) h = ap (given ts) h.2 ∙ ap (λ (l : ℕ). Err (e.Deep l)) (left_line ts h.0 ∙ sym h.1)
+computed_of ts (Err e.NoMemory) h = tt
 
 pub one_file : (room : ℕ) (a b : Tree) (ts : List Token) → Spells room a ts → Spells room b ts → a ≡ b
 one_file room a b ts h k = same_tree room ts a b (ok_inj room ts a.statements b.statements (file_read h) (file_read k))

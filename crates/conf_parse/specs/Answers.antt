@@ -6,8 +6,8 @@ use Rattle.conf_parse.specs.declared.tree.Statement.{Statement}
 use Rattle.conf_parse.specs.declared.state.State.{State}
 use Rattle.conf_parse.specs.declared.error.ParseError.{ParseError}
 use Rattle.conf_parse.specs.declared.error.ParseError.TheVariants as e
-use Rattle.conf_parse.specs.Symbols.{marks}
-use Rattle.conf_parse.specs.Machine.{Reply, Fault, Grammar, Nested}
+use Rattle.conf_parse.specs.Symbols.{Mark, marks}
+use Rattle.conf_parse.specs.Machine.{Reply, Fault, Grammar, Nested, run, start}
 use Rattle.conf_parse.specs.Refusal.{Refusal}
 
 -- a step's answer on this line
@@ -48,3 +48,26 @@ abbrev pub Refused : ℕ → List Token → ParseError → Type 0
 Refused room tokens (e.Grammar line) = (rest : List Token) × (line ≡ line_at tokens rest) × Refusal room tokens Grammar rest
 Refused room tokens (e.Deep line) = (rest : List Token) × (line ≡ line_at tokens rest) × Refusal room tokens Nested rest
 Refused room tokens e.NoMemory = Unit {0}
+
+-- ---- the answer as a function of the tokens
+
+-- the line of the first of the terminals that are left, or that of the last token
+abbrev pub line_left : List Token → List Mark → ℕ
+line_left tokens [] = last_line 1 tokens
+line_left tokens (x ∷ more) = x.line
+
+abbrev pub fault_at : Fault → ℕ → ParseError
+fault_at Grammar line = e.Grammar line
+fault_at Nested line = e.Deep line
+
+abbrev pub given : List Token → Reply → Result Tree ParseError
+given tokens (Ok statements) = Ok (record { statements = statements })
+given tokens (Err p) = Err (fault_at p.0 (line_left tokens p.1))
+
+abbrev pub parsed : List Token → Result Tree ParseError
+parsed tokens = given tokens (run (marks tokens) (start 64))
+
+-- the answer is this one, unless memory ran out
+abbrev pub IsAnswer : Result Tree ParseError → Result Tree ParseError → Type 0
+IsAnswer (Err e.NoMemory) answer = Unit {0}
+IsAnswer given answer = answer ≡ given

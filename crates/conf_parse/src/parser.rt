@@ -1,7 +1,7 @@
 //! A whole file.
 ghost use Rattle.std.specs.Prelude.{◌≡◌, ℕ, List, IfOk, IfErr};
 ghost use Rattle.conf_lex.specs.declared.token.Token.{Token};
-ghost use Rattle.conf_parse.specs.Answers.{Gives, IsRead, Refused};
+ghost use Rattle.conf_parse.specs.Answers.{Gives, IsAnswer, IsRead, Refused, parsed};
 ghost use Rattle.conf_parse.specs.Grammar.{Spells};
 ghost use Rattle.conf_parse.specs.Machine as spec;
 ghost use Rattle.conf_parse.specs.Symbols.{marks};
@@ -45,6 +45,8 @@ pub fn parse(alloc: Global, tokens: &List<Token>) -> Result<Tree, ParseError>
     // The tree that is spelled is the answer, unless memory runs out.
     ensures only { (tree : Tree) → Spells MAX_NESTING tree tokens.now → IsRead tree result }
     ensures refused { IfErr result (λ e. Refused MAX_NESTING tokens.now e) }
+    // The same as a function of the tokens.
+    ensures computed { IsAnswer result (parsed tokens.now) }
 {
     read(alloc, tokens.as_slice())
 }
