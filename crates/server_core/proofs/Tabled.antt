@@ -1,0 +1,68 @@
+-- A step for one client, in the table.
+use Rattle.std.proofs.Common.{◌≡◌, ℕ, ◌<◌, List, [], ◌∷◌, ◌++◌, length, get_or, set, Option, Some, None, refl, sym, ◌∙◌, ap, subst, arith}
+use Rattle.std.proofs.lemmas.List.{get_or-set_same}
+use Rattle.buffer_pool.specs.State.{PoolState}
+use Rattle.buffer_pool.specs.Kept.{Kept, HeldWithin}
+use Rattle.lt_world.specs.declared.net.Address.{Address}
+use Rattle.lt_world.specs.declared.net.Ending.{Ending}
+use Rattle.lt_world.specs.Trace.{Act, Entry, Close, said}
+use Rattle.server_model.specs.Plan.{World}
+use Rattle.server_model.specs.Deeds.{Deed, Ours, told}
+use Rattle.server_model.specs.Held.{Held, IsPlace, kept_at}
+use Rattle.server_model.specs.Steps.{arrived}
+use Rattle.server_model.specs.Files.{Backs, IsTable}
+use Rattle.server_model.specs.Serves.{Stands}
+use Rattle.server_model.specs.Turns.{Seen, StepsBy, TurnsOn}
+use Rattle.server_model.proofs.Changing.{Changes, table_on}
+use Rattle.server_model.proofs.Turning.{IsReady, IsDue, turn_step, backs_step}
+use Rattle.server_core.specs.Connection.{Connected}
+use Rattle.server_core.specs.Table.{helds, serving, Rising, AllWaiting, IsKept}
+use Rattle.server_core.proofs.Listed.{helds_append, count_append, rising_push, waiting_push}
+
+pub place_as : (link : ℕ) (conns other : List Connected) (i : ℕ) → other ≡ conns → IsPlace link (helds other) (Some i) → IsPlace link (helds conns) (Some i)
+place_as link conns other i is place = subst (λ (t : List Connected). IsPlace link (helds t) (Some i)) is place
+
+pub none_as : (link : ℕ) (conns other : List Connected) → other ≡ conns → kept_at link (helds other) ≡ None → kept_at link (helds conns) ≡ None
+none_as link conns other is none = ap (λ (t : List Connected). kept_at link (helds t)) (sym is) ∙ none
+
+-- what is told by a close
+pub close_told : (l m : ℕ) (e : Ending) (old now : List Entry) → l ≡ m → now ≡ said l (Close e ∷ []) old → now ≡ told m (Ours (Close e) ∷ []) old
+close_told l m e old now same is = is ∙ ap (λ (n : ℕ). said n (Close e ∷ []) old) same
+
+module _ (event : Act) (due : Seen → Seen → ℕ → World → World → List Deed → List Deed → Type 0) (ready : IsReady event) (is_due : IsDue event due)
+    (link : ℕ) (root : List ℕ) (conns next : List Connected) (held : Held) (now : Option Held) (net files : Type 0) (before after : Seen) (old told_now : List Entry)
+    (here : held.link ≡ link) (kept : kept_at link (helds conns) ≡ Some held) (change : Changes link (helds conns) (helds next) now) (backs : files → Backs before.disk.table (helds conns))
+    (step : StepsBy Stands (due before after held.link) root held now net files before.disk after.disk old told_now) where
+  pub conns_turn : TurnsOn event link (serving root conns) (serving root next) net files before after old told_now
+  conns_turn =
+      let P : ℕ → Type 0 = λ l. (kept_at l (helds conns) ≡ Some held) → Changes l (helds conns) (helds next) now → TurnsOn event l (serving root conns) (serving root next) net files before after old told_now in
+      subst P here (λ k ch. turn_step event due ready is_due root (helds conns) (helds next) held now net files before after old told_now k ch backs step) kept change
+
+  pub conns_backs : files → Backs after.disk.table (helds next)
+  conns_backs f =
+      let P : ℕ → Type 0 = λ l. (kept_at l (helds conns) ≡ Some held) → Changes l (helds conns) (helds next) now → Backs after.disk.table (helds next) in
+      subst P here (λ k ch. backs_step held.link (helds conns) (helds next) held now before.disk after.disk k ch (backs f) (step.does f) (step.fits f)) kept change
+
+pub conns_table : (links more link : ℕ) (conns next : List Connected) (now : Option Held) → Changes link (helds conns) (helds next) now → more ≡ links → link < links → IsTable links (helds conns) → IsTable more (helds next)
+conns_table links more link conns next now change same below is = table_on links more link (helds conns) (helds next) now is change (omega (arith, same)) (omega (arith, same, below))
+
+-- a client that arrives is kept
+pub push_kept : (link : ℕ) (peer local : Address) (conns next : List Connected) (new : Connected) → new.held ≡ arrived link peer local → new.numbers ≡ [] → next ≡ conns ++ new ∷ [] → IsTable link (helds conns)
+    → (store : PoolState) → IsKept store conns → IsKept store next
+push_kept link peer local conns next new is none pushed table store kept =
+    let pushed_table : helds next ≡ helds conns ++ new.held ∷ [] = ap helds pushed ∙ helds_append conns (new ∷ []) in
+    record {
+      counted = omega (arith, kept.counted, ap Rattle.server_core.specs.Table.held_count pushed, count_append conns (new ∷ []), ap length none);
+      rising = subst Rising (sym pushed_table) (rising_push link (helds conns) new.held table.below (omega (arith, ap (λ (h : Held). h.link) is)) kept.rising);
+      waiting = subst AllWaiting (sym pushed_table) (waiting_push (helds conns) new.held (subst (λ (h : Held). Rattle.server_model.specs.Serves.IsWaiting h.stage h.input) (sym is) refl) kept.waiting);
+    }
+
+-- the client that was closed, taken out of the list
+pub taken_out : (conns : List Connected) (i : ℕ) (closed taken : Connected) (numbers : List ℕ) → i < length conns → taken ≡ get_or (set conns i closed) i taken → closed.numbers ≡ numbers → taken.numbers ≡ numbers
+taken_out conns i closed taken numbers below is same = ap (λ (k : Connected). k.numbers) (is ∙ get_or-set_same conns i closed taken below) ∙ same
+
+pub within_as : (store : PoolState) (a b : List ℕ) → a ≡ b → HeldWithin store (length b) → HeldWithin store (length a)
+within_as store a b is within = subst (λ (l : List ℕ). HeldWithin store (length l)) (sym is) within
+
+pub kept_as : (store next : PoolState) (a b : List ℕ) → a ≡ b → Kept store a next [] → Kept store b next []
+kept_as store next a b is kept = subst (λ (l : List ℕ). Kept store l next []) is kept

@@ -1,0 +1,70 @@
+//! What a request's path gets: a find, and an open where a file stands there.
+ghost use Rattle.std.specs.Prelude.{◌≡◌, ◌++◌, ◌≤◌, IfOk};
+ghost use Rattle.server_core.specs.Planned.{Plans, PlansWithin, OpensAs};
+ghost use Rattle.lt_world.specs.Disk.{IsFileAt};
+
+use lt_bytes::{NoMemory, Text};
+use lt_world::{FileId, Files, Found, Opened, Owner};
+use std::alloc::Global;
+
+/// What is planned for a request.
+pub(crate) enum Planned {
+    /// An error reply with this status.
+    Error(u16),
+    /// The bytes of an opened file.
+    File { file: FileId, size: u64 },
+    NoMemory,
+}
+
+/// Asks the files what stands at a path below the document root.
+pub(crate) fn plan<F: Files>(
+    alloc: Global,
+    root: &[u8],
+    path: &[u8],
+    files: &mut F,
+    owner: Owner,
+) -> Planned
+    ensures plans { F.tells → Plans result root.now owner.conn owner.request path.now (F.disk files.old) (F.disk files.new) }
+    ensures within { PlansWithin result }
+    ensures faults { F.faults files.old ≤ F.faults files.new }
+    ensures failed_read { F.tells → F.failed_read files.new ≡ F.failed_read files.old }
+    ensures later { F.later files.old files.new }
+{
+    let Ok(place) = place_of(alloc, root, path) else {
+        return Planned::NoMemory;
+    };
+    match files.find(owner, place.bytes()) {
+        Found::File { size: _, time: _ } => open(place.bytes(), files, owner),
+        Found::Directory => Planned::Error(404),
+        Found::Missing => Planned::Error(404),
+        Found::Failed => Planned::Error(500),
+        Found::NoMemory => Planned::NoMemory,
+    }
+}
+
+fn open<F: Files>(place: &[u8], files: &mut F, owner: Owner) -> Planned
+    requires { F.tells → IsFileAt place.now (F.disk files.old).tree }
+    ensures opens { F.tells → OpensAs result owner place.now (F.disk files.old) (F.disk files.new) }
+    ensures within { PlansWithin result }
+    ensures faults { F.faults files.old ≤ F.faults files.new }
+    ensures failed_read { F.tells → F.failed_read files.new ≡ F.failed_read files.old }
+    ensures later { F.later files.old files.new }
+{
+    match files.open(owner, place) {
+        Opened::File {
+            file,
+            size,
+            time: _,
+        } => Planned::File { file, size },
+        Opened::Failed => Planned::Error(500),
+        Opened::NoMemory => Planned::NoMemory,
+    }
+}
+
+fn place_of(alloc: Global, root: &[u8], path: &[u8]) -> Result<Text, NoMemory>
+    ensures { IfOk result (λ place. place ≡ root.now ++ path.now) }
+{
+    let mut place = Text::from_bytes(alloc, root)?;
+    place.push_all(path)?;
+    Ok(place)
+}

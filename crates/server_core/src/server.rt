@@ -1,0 +1,154 @@
+//! The server, and its turns.
+ghost use Rattle.std.specs.Prelude.{◌≡◌, ◌≤◌, ℕ, List, [], IfOk, None};
+ghost use Rattle.buffer_pool.specs.Kept.{HeldWithin};
+ghost use Rattle.lt_world.specs.Disk.{Disk};
+ghost use Rattle.server_model.specs.Files.{IsTable, Backs};
+ghost use Rattle.server_model.specs.Serves.{Serves};
+ghost use Rattle.server_core.specs.Steps.{seen_as};
+ghost use Rattle.server_core.specs.Table.{helds, held_count, all_freed};
+ghost use Rattle.server_core.specs.Turning.{Turned, OnRest, KindFits, Uses};
+
+use crate::connection::Conn;
+use crate::replies::Replies;
+use crate::site::Site;
+use crate::step::release;
+use crate::table::{accept_on, read_on, write_on};
+use crate::turn::Turn;
+use chunkqueue::Store;
+use lt_bytes::{NoMemory, Text};
+use lt_world::{Event, Files, Net};
+use std::alloc::Global;
+use std::marker::Model;
+
+/// A server: what it serves, and the clients that are open. It must be closed: it can't be dropped.
+pub struct Server {
+    site: Site,
+    conns: Vec<Conn>,
+    store: Store,
+}
+
+impl Model for Server {
+    ghost use Rattle.server_model.specs.Held.{Serving};
+
+    ghost Value = { Serving };
+
+    ghost use Rattle.server_core.specs.Within.{serving_of, IsServer};
+
+    ghost view = { serving_of };
+
+    ghost invariant = { IsServer };
+}
+
+impl Server {
+    /// A server of the files below a document root, with no client.
+    pub fn new(alloc: Global, root: Text) -> Result<Server, NoMemory>
+        ensures root { IfOk result (λ server. server.root ≡ root) }
+        ensures empty { IfOk result (λ server. server.table ≡ []) }
+        ensures table { IfOk result (λ server. (links : ℕ) → IsTable links server.table) }
+        ensures backs { IfOk result (λ server. (disk : Disk) → Backs disk.table server.table) }
+        ensures serves { IfOk result (λ server. (disk : Disk) → disk.calls ≡ [] → ((file : ℕ) → disk.table file ≡ None) → Serves disk server []) }
+    {
+        Ok(Server {
+            site: Site {
+                alloc,
+                root,
+                replies: Replies::new(alloc)?,
+            },
+            conns: Vec::new(alloc),
+            store: Store::new(alloc),
+        })
+    }
+
+    /// Takes the next event of the net, and does all that is due for it. Where the net answers no event,
+    /// nothing is done.
+    pub fn turn<N: Net, F: Files>(&mut self, net: &mut N, files: &mut F) -> Turn
+        requires table { IsTable (N.links net.old) self.old.table }
+        requires backs { F.tells → Backs (F.disk files.old).table self.old.table }
+        ensures table { IsTable (N.links net.new) self.new.table }
+        ensures backs { F.tells → Backs (F.disk files.new).table self.new.table }
+
+        // The server stands for what the net and the files tell, and what was due for the event was done.
+        ensures serves { N.tells → F.tells → Serves (F.disk files.old) self.old (N.trace net.old) →
+            Serves (F.disk files.new) self.new (N.trace net.new) ×
+            Turned result self.old.root (seen_as (F.disk files.old) (F.faults files.old) (F.failed_read files.old))
+            (seen_as (F.disk files.new) (F.faults files.new) (F.failed_read files.new)) (N.trace net.old) (N.trace net.new) }
+        ensures root { self.new.root ≡ self.old.root }
+
+        // The answer is that of the net, and without an event nothing changes.
+        ensures last { KindFits result (N.last net.new) }
+        ensures rests { OnRest result (self.new ≡ self.old) }
+        ensures rests_files { OnRest result (files.new ≡ files.old) }
+        ensures rests_trace { OnRest result (N.tells → N.trace net.new ≡ N.trace net.old) }
+        ensures left { N.ends → Uses result (N.left net.old) (N.left net.new) }
+        ensures net_faults { N.faults net.old ≤ N.faults net.new }
+        ensures wait_faults { N.wait_faults net.new ≡ N.wait_faults net.old }
+        ensures net_later { N.later net.old net.new }
+        ensures faults { F.faults files.old ≤ F.faults files.new }
+        ensures later { F.later files.old files.new }
+    {
+        match net.next() {
+            Event::Arrived { link, peer, local } => {
+                accept_on(
+                    self.site.alloc,
+                    &mut self.conns,
+                    net,
+                    files,
+                    link,
+                    peer,
+                    local,
+                );
+                Turn::Did
+            }
+            Event::Readable(link) => {
+                read_on(
+                    &mut self.conns,
+                    &self.site,
+                    &mut self.store,
+                    net,
+                    files,
+                    link,
+                );
+                Turn::Did
+            }
+            Event::Writable(link) => {
+                write_on(&mut self.conns, &mut self.store, net, files, link);
+                Turn::Did
+            }
+            Event::Idle => Turn::Idle,
+            Event::Over => Turn::Over,
+            Event::NoMemory => Turn::NoMemory,
+        }
+    }
+
+    /// Ends the server: it gives every file back that it keeps. No client is told.
+    pub fn close<F: Files>(self, files: &mut F)
+        ensures disk { F.tells → F.disk files.new ≡ all_freed self.table (F.disk files.old) }
+        ensures faults { F.faults files.old ≤ F.faults files.new }
+        ensures failed_read { F.tells → F.failed_read files.new ≡ F.failed_read files.old }
+        ensures later { F.later files.old files.new }
+    {
+        let Server {
+            site: _,
+            mut conns,
+            mut store,
+        } = self;
+        give_back(&mut conns, &mut store, files);
+        conns.destroy_empty();
+        store.close();
+    }
+}
+
+// Gives back what the clients keep, and leaves none.
+fn give_back<F: Files>(conns: &mut Vec<Conn>, store: &mut Store, files: &mut F)
+    requires { HeldWithin store.old (held_count conns.old.items) }
+    ensures empty { conns.new.items ≡ [] }
+    ensures disk { F.tells → F.disk files.new ≡ all_freed (helds conns.old.items) (F.disk files.old) }
+    ensures faults { F.faults files.old ≤ F.faults files.new }
+    ensures failed_read { F.tells → F.failed_read files.new ≡ F.failed_read files.old }
+    ensures later { F.later files.old files.new }
+{
+    while let Some(mut conn) = conns.pop() {
+        release(&mut conn, files);
+        conn.close(store);
+    }
+}

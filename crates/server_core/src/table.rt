@@ -1,0 +1,149 @@
+//! The table of clients, in the order of their links, and what each event of a link does in it.
+ghost use Rattle.std.specs.Prelude.{◌≡◌, ◌≤◌, ◌<◌, ℕ, List, [], ◌∷◌};
+ghost use Rattle.buffer_pool.specs.State.{PoolState};
+ghost use Rattle.lt_world.specs.Trace.{Accepted, Readable, Writable};
+ghost use Rattle.server_model.specs.Held.{IsPlace};
+ghost use Rattle.server_model.specs.Files.{IsTable, Backs};
+ghost use Rattle.server_model.specs.Turns.{TurnsOn};
+ghost use Rattle.server_core.specs.Steps.{seen_as};
+ghost use Rattle.server_core.specs.Table.{helds, serving, Rising, IsKept};
+
+use crate::connection::Conn;
+use crate::site::Site;
+use crate::step::{finish, read_for, write_for};
+use chunkqueue::{BUFFER_SIZE, Store};
+use lt_world::{Address, Ending, Files, Link, Net};
+use std::alloc::Global;
+
+// The place of a link, found without a look at every client.
+fn place(conns: &[Conn], link: Link) -> Option<usize>
+    requires { Rising (helds conns.now) }
+    ensures { IsPlace link.0 (helds conns.now) result }
+{
+    let mut low = 0;
+    let mut high = conns.len();
+    while low < high {
+        let middle = low + (high - low) / 2;
+        let here = conns[middle].link().0;
+        if here == link.0 {
+            return Some(middle);
+        }
+        if here < link.0 {
+            low = middle + 1;
+        } else {
+            high = middle;
+        }
+    }
+    None
+}
+
+/// A client arrives. It is refused where there is no memory to keep it.
+pub(crate) fn accept_on<N: Net, F: Files>(
+    alloc: Global,
+    conns: &mut Vec<Conn>,
+    net: &mut N,
+    files: &F,
+    link: Link,
+    peer: Address,
+    local: Address,
+)
+    requires calls { 0 < N.calls net.old }
+    requires known { link.0 < N.links net.old }
+    requires table { IsTable link.0 (helds conns.old.items) }
+    requires backs { F.tells → Backs (F.disk files.now).table (helds conns.old.items) }
+    ensures turn { (root : List ℕ) → TurnsOn (Accepted peer local) link.0 (serving root conns.old.items) (serving root conns.new.items) N.tells F.tells
+        (seen_as (F.disk files.now) (F.faults files.now) (F.failed_read files.now)) (seen_as (F.disk files.now) (F.faults files.now) (F.failed_read files.now))
+        (N.trace net.old) (N.trace net.new) }
+    ensures kept { (store : PoolState) → IsKept store conns.old.items → IsKept store conns.new.items }
+    ensures table { IsTable (N.links net.new) (helds conns.new.items) }
+    ensures backs { F.tells → Backs (F.disk files.now).table (helds conns.new.items) }
+    ensures net_faults { N.faults net.old ≤ N.faults net.new }
+    ensures wait_faults { N.wait_faults net.new ≡ N.wait_faults net.old }
+    ensures last { N.last net.new ≡ N.last net.old }
+    ensures left { N.ends → N.left net.new ≤ N.left net.old }
+    ensures net_later { N.later net.old net.new }
+{
+    let _ = files;
+    let Ok(()) = conns.reserve(1) else {
+        net.close(link, Ending::NoMemory);
+        return;
+    };
+    conns.push_reserved(Conn::new(alloc, link, peer, local));
+}
+
+/// A client may be read from.
+pub(crate) fn read_on<N: Net, F: Files>(
+    conns: &mut Vec<Conn>,
+    site: &Site,
+    store: &mut Store,
+    net: &mut N,
+    files: &mut F,
+    link: Link,
+)
+    requires calls { 1 < N.calls net.old }
+    requires room { BUFFER_SIZE ≤ N.room net.old }
+    requires known { link.0 < N.links net.old }
+    requires kept { IsKept store.old conns.old.items }
+    requires backs { F.tells → Backs (F.disk files.old).table (helds conns.old.items) }
+    ensures turn { TurnsOn Readable link.0 (serving site.now.root conns.old.items) (serving site.now.root conns.new.items) N.tells F.tells
+        (seen_as (F.disk files.old) (F.faults files.old) (F.failed_read files.old)) (seen_as (F.disk files.new) (F.faults files.new) (F.failed_read files.new))
+        (N.trace net.old) (N.trace net.new) }
+    ensures kept { IsKept store.new conns.new.items }
+    ensures table { IsTable (N.links net.old) (helds conns.old.items) → IsTable (N.links net.new) (helds conns.new.items) }
+    ensures backs { F.tells → Backs (F.disk files.new).table (helds conns.new.items) }
+    ensures net_faults { N.faults net.old ≤ N.faults net.new }
+    ensures wait_faults { N.wait_faults net.new ≡ N.wait_faults net.old }
+    ensures last { N.last net.new ≡ N.last net.old }
+    ensures left { N.ends → N.left net.new ≤ N.left net.old }
+    ensures net_later { N.later net.old net.new }
+    ensures faults { F.faults files.old ≤ F.faults files.new }
+    ensures later { F.later files.old files.new }
+{
+    let Some(i) = place(conns, link) else {
+        return;
+    };
+    let conn = &mut conns[i];
+    let Some(ending) = read_for(conn, site, store, net, files) else {
+        return;
+    };
+    finish(conn, net, files, ending);
+    conns.remove(i).close(store);
+}
+
+/// A client may be written to.
+pub(crate) fn write_on<N: Net, F: Files>(
+    conns: &mut Vec<Conn>,
+    store: &mut Store,
+    net: &mut N,
+    files: &mut F,
+    link: Link,
+)
+    requires calls { 1 < N.calls net.old }
+    requires room { BUFFER_SIZE ≤ N.room net.old }
+    requires known { link.0 < N.links net.old }
+    requires kept { IsKept store.old conns.old.items }
+    requires backs { F.tells → Backs (F.disk files.old).table (helds conns.old.items) }
+    ensures turn { (root : List ℕ) → TurnsOn Writable link.0 (serving root conns.old.items) (serving root conns.new.items) N.tells F.tells
+        (seen_as (F.disk files.old) (F.faults files.old) (F.failed_read files.old)) (seen_as (F.disk files.new) (F.faults files.new) (F.failed_read files.new))
+        (N.trace net.old) (N.trace net.new) }
+    ensures kept { IsKept store.new conns.new.items }
+    ensures table { IsTable (N.links net.old) (helds conns.old.items) → IsTable (N.links net.new) (helds conns.new.items) }
+    ensures backs { F.tells → Backs (F.disk files.new).table (helds conns.new.items) }
+    ensures net_faults { N.faults net.old ≤ N.faults net.new }
+    ensures wait_faults { N.wait_faults net.new ≡ N.wait_faults net.old }
+    ensures last { N.last net.new ≡ N.last net.old }
+    ensures left { N.ends → N.left net.new ≤ N.left net.old }
+    ensures net_later { N.later net.old net.new }
+    ensures faults { F.faults files.old ≤ F.faults files.new }
+    ensures later { F.later files.old files.new }
+{
+    let Some(i) = place(conns, link) else {
+        return;
+    };
+    let conn = &mut conns[i];
+    let Some(ending) = write_for(conn, store, net, files) else {
+        return;
+    };
+    finish(conn, net, files, ending);
+    conns.remove(i).close(store);
+}
