@@ -47,4 +47,4 @@ lexed bytes = if is_utf8 bytes then given (run bytes 1 Nothing) else Err (e.NotU
 -- the answer is this one, unless memory ran out
 abbrev pub IsAnswer : Result (List Token) LexError → Result (List Token) LexError → Type 0
 IsAnswer (Err e.NoMemory) answer = Unit {0}
-IsAnswer given answer = answer ≡ given
+IsAnswer found answer = answer ≡ found

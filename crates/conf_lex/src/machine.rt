@@ -91,6 +91,53 @@ fn more_digits(from: u32, digits: Digits, byte: u8) -> Result<Held, LexError>
     }
 }
 
+fn word(
+    alloc: Global,
+    tokens: &mut List<Token>,
+    from: u32,
+    word: Text,
+    class: Class,
+    byte: u8,
+    line: u32,
+) -> Result<Held, LexError>
+    requires { class ≡ table.class byte }
+    ensures { Steps (spec.word (table.in_word class) from word class byte line) tokens.old result tokens.new }
+{
+    if in_word(class) {
+        Ok(Held::Word(from, with(word, byte)?))
+    } else {
+        ended(
+            alloc,
+            tokens,
+            TokenKind::Word(word),
+            from,
+            class,
+            byte,
+            line,
+        )
+    }
+}
+
+fn number(
+    alloc: Global,
+    tokens: &mut List<Token>,
+    from: u32,
+    digits: Digits,
+    class: Class,
+    byte: u8,
+    line: u32,
+) -> Result<Held, LexError>
+    requires { class ≡ table.class byte }
+    ensures { Steps (spec.number (table.is_digit class) from digits class byte line) tokens.old result tokens.new }
+{
+    if is_digit(class) {
+        more_digits(from, digits, byte)
+    } else {
+        let kind = TokenKind::Number(digits.number());
+        ended(alloc, tokens, kind, from, class, byte, line)
+    }
+}
+
 fn quote(
     tokens: &mut List<Token>,
     class: Class,
@@ -169,36 +216,8 @@ pub fn step(
     match held {
         Held::Nothing => begin(alloc, class, byte, line),
         Held::Comment => Ok(comment(class)),
-        Held::Word(from, word) => {
-            if in_word(class) {
-                Ok(Held::Word(from, with(word, byte)?))
-            } else {
-                ended(
-                    alloc,
-                    tokens,
-                    TokenKind::Word(word),
-                    from,
-                    class,
-                    byte,
-                    line,
-                )
-            }
-        }
-        Held::Number(from, digits) => {
-            if is_digit(class) {
-                more_digits(from, digits, byte)
-            } else {
-                ended(
-                    alloc,
-                    tokens,
-                    TokenKind::Number(digits.number()),
-                    from,
-                    class,
-                    byte,
-                    line,
-                )
-            }
-        }
+        Held::Word(from, written) => word(alloc, tokens, from, written, class, byte, line),
+        Held::Number(from, digits) => number(alloc, tokens, from, digits, class, byte, line),
         Held::Quote(from, text) => quote(tokens, class, from, text, byte),
         Held::Backslash(from, text) => backslash(class, from, text, byte),
         Held::Sign(from, first) => sign(alloc, tokens, first, from, class, byte, line),

@@ -70,4 +70,4 @@ parsed tokens = given tokens (run (marks tokens) (start 64))
 -- the answer is this one, unless memory ran out
 abbrev pub IsAnswer : Result Tree ParseError → Result Tree ParseError → Type 0
 IsAnswer (Err e.NoMemory) answer = Unit {0}
-IsAnswer given answer = answer ≡ given
+IsAnswer found answer = answer ≡ found
