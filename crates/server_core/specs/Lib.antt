@@ -4,5 +4,5 @@ pub mod Planned
 pub mod Reading
 pub mod Steps
 pub mod Table
-pub mod Turning
+pub mod Turns
 pub mod Within

@@ -6,7 +6,7 @@ ghost use Rattle.server_model.specs.Files.{IsTable, Backs};
 ghost use Rattle.server_model.specs.Serves.{Serves};
 ghost use Rattle.server_core.specs.Steps.{seen_as};
 ghost use Rattle.server_core.specs.Table.{helds, held_count, all_freed};
-ghost use Rattle.server_core.specs.Turning.{Turned, OnRest, KindFits, Uses};
+ghost use Rattle.server_core.specs.Turns.{Turned, OnRest, KindFits, Uses};
 
 use crate::connection::Conn;
 use crate::replies::Replies;
@@ -82,9 +82,9 @@ impl Server {
         ensures left { N.ends → Uses result (N.left net.old) (N.left net.new) }
         ensures net_faults { N.faults net.old ≤ N.faults net.new }
         ensures wait_faults { N.wait_faults net.new ≡ N.wait_faults net.old }
-        ensures net_later { N.later net.old net.new }
+        ensures later { N.later net.old net.new }
         ensures faults { F.faults files.old ≤ F.faults files.new }
-        ensures later { F.later files.old files.new }
+        ensures files_later { F.later files.old files.new }
     {
         match net.next() {
             Event::Arrived { link, peer, local } => {
