@@ -1,5 +1,5 @@
 //! The parts of a line, read from its front.
-ghost use Rattle.std.specs.Prelude.{◌≡◌, true, ◌<◌, ◌≤◌, ℕ, length, option_map, IfSome, get_or};
+ghost use Rattle.std.specs.Prelude.{◌≡◌, ◌≤◌, length, option_map, IfSome};
 ghost use Rattle.std.specs.Option.{option_copied};
 ghost use Rattle.lt_script.specs.Fields.{after, digits_len, leads_zero, numeral_of, number_at, name_at, address_at, octet_at, end_at};
 

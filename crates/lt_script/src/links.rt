@@ -1,9 +1,9 @@
 //! The links of a net, and all that was told of them, the newest last. A note is short: the bytes that
 //! were read or taken stand with their link.
-ghost use Rattle.std.specs.Prelude.{◌≡◌, ℕ, ◌+◌, ◌<◌, ◌≤◌, ◌∷◌, [], ◌++◌, List, length, get_or, set, false, None, OnOk, OnErr, IfOk};
+ghost use Rattle.std.specs.Prelude.{◌≡◌, ◌+◌, ◌<◌, ◌≤◌, ◌∷◌, [], ◌++◌, length, get_or, false, None, OnOk, OnErr, IfOk};
 ghost use Rattle.lt_world.specs.Trace.{own, names, link_bound, Accepted as accepted, Readable as readable, Writable as writable, Connect as connect, Close as closed};
 ghost use Rattle.lt_world.specs.Answers.{read_act, GotWithin};
-ghost use Rattle.lt_script.specs.Sides.{Side, side_at, gives, with_bytes, with_end, with_close, with_read, fresh_side};
+ghost use Rattle.lt_script.specs.Sides.{side_at, gives, with_bytes, with_end, with_close, with_read, fresh_side};
 ghost use Rattle.lt_script.specs.Steps.{change};
 ghost use Rattle.lt_script.specs.Calls.{some_taken};
 ghost use Rattle.lt_script.specs.Views.{output_of, ending_of};

@@ -1,6 +1,6 @@
 //! A net in memory, which plays a script.
 ghost use Rattle.std.specs.Prelude.{◌≡◌, ℕ, ◌+◌, ◌<◌, ◌≤◌, ◌∷◌, [], List, length, false, OnOk, OnErr};
-ghost use Rattle.lt_world.specs.Trace.{said, names, link_bound, Close as closed};
+ghost use Rattle.lt_world.specs.Trace.{said, names, Close as closed};
 ghost use Rattle.lt_world.specs.Answers.{event_tells, kind_of, IsFresh, IsNumbered, OnEvent, UsesEvent, read_act, write_act, dial_act, GotWithin, TookWithin, IsFreshDial, IsNumberedDial};
 ghost use Rattle.lt_world.specs.Causes.{Rose, GotCause, TookCause, DialCause};
 ghost use Rattle.lt_script.specs.Calls.{after, Reads, Writes, Connects, Closes, Turns};

@@ -1,5 +1,5 @@
 //! What is kept for one link: what the script gave to it, and what it took.
-ghost use Rattle.std.specs.Prelude.{◌≡◌, ◌<◌, ◌≤◌, ◌+◌, ◌++◌, length, is_none, OnOk, OnErr, Some};
+ghost use Rattle.std.specs.Prelude.{◌≡◌, ◌<◌, ◌≤◌, ◌+◌, ◌++◌, length, OnOk, OnErr, Some};
 ghost use Rattle.lt_world.specs.Answers.{read_act, GotWithin};
 
 use lt_bytes::NoMemory;

@@ -1,7 +1,7 @@
 //! The report: what each link took, and how it ended.
-ghost use Rattle.std.specs.Prelude.{◌≡◌, ◌≤◌, ◌^◌, ◌<◌, length, take, OnErr};
+ghost use Rattle.std.specs.Prelude.{◌≡◌, ◌≤◌, length, take, OnErr};
 ghost use Rattle.lt_world.specs.Causes.{Rose};
-ghost use Rattle.lt_script.specs.Reports.{Writes, ending_name, front_of, line_of, lines_below, report_of};
+ghost use Rattle.lt_script.specs.Reports.{Writes, ending_name, front_of, line_of, report_of};
 
 use crate::links::Links;
 use crate::writing::{put, write_all, write_quoted};

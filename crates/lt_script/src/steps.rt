@@ -1,8 +1,7 @@
 //! What the steps of a script do to the links.
 ghost use Rattle.std.specs.Prelude.{◌≡◌, ◌+◌, ◌<◌, ◌≤◌, true, List, length, drop, get_or, OnOk, OnErr, IfOk, min};
-ghost use Rattle.lt_world.specs.Answers.{event_tells};
 ghost use Rattle.lt_script.specs.declared.script.Step.{Step};
-ghost use Rattle.lt_script.specs.Steps.{link_of, is_open_at, is_due, skip, event_of, sides_after, taker_of, count_of, rest_of, lowered, less, allowed};
+ghost use Rattle.lt_script.specs.Steps.{link_of, is_open_at, is_due, skip, event_of, taker_of, count_of, rest_of, lowered, less, allowed};
 ghost use Rattle.lt_script.specs.Told.{Stays, Steps};
 
 use crate::links::Links;
