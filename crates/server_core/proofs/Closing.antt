@@ -1,10 +1,13 @@
 -- Files that are given back, one client after the other.
-use Rattle.std.proofs.Common.{◌≡◌, ℕ, List, [], ◌∷◌, ◌++◌, length, Option, Some, None, refl, sym, ◌∙◌, ap, arith}
+use Rattle.std.proofs.Common.{◌≡◌, ℕ, List, [], ◌∷◌, ◌++◌, length, Option, Some, None, refl, sym, ◌∙◌, ap, arith, inl, inr}
+use Rattle.std.proofs.lemmas.Bool.{cases_eq}
 use Rattle.buffer_pool.specs.State.{PoolState}
 use Rattle.buffer_pool.specs.Kept.{Kept, HeldWithin}
-use Rattle.lt_world.specs.Disk.{Disk}
-use Rattle.server_model.specs.Held.{Held}
-use Rattle.server_model.specs.Files.{Drops}
+use Rattle.lt_world.specs.Disk.{Disk, without_file}
+use Rattle.lt_world.proofs.Disks.{released_own, released_other}
+use Rattle.server_model.specs.Held.{Held, kept_at}
+use Rattle.server_model.specs.Files.{file_of, Drops}
+use Rattle.server_model.proofs.Tables.{kept_at-first, kept_at-past}
 use Rattle.server_core.specs.Connection.{Connected}
 use Rattle.server_core.specs.Table.{helds, held_count, freed, all_freed}
 use Rattle.server_core.proofs.Listed.{helds_append, count_append}
@@ -27,3 +30,35 @@ module _ (old rest : List Connected) (x : Connected) (is : old ≡ rest ++ x ∷
 
   pub popped_count : (store next : PoolState) (numbers : List ℕ) → numbers ≡ x.numbers → Kept store numbers next [] → HeldWithin store (held_count old) → HeldWithin next (held_count rest)
   popped_count store next numbers same kept within = omega (arith, kept.total, kept.rises, within, ap length same, ap held_count is, count_append rest (x ∷ []))
+
+-- a file that isn't open stays so
+freed_none : (file : Option ℕ) (disk : Disk) (f : ℕ) → disk.table f ≡ None → (freed file disk).table f ≡ None
+freed_none None disk f none = none
+freed_none (Some g) disk f none = elim (cases_eq g f) [
+  | inl same ↦ ap (without_file g disk.table) (sym same) ∙ released_own g disk.table
+  | inr apart ↦ released_other g f disk.table (λ e. apart (sym e)) ∙ none
+]
+
+all_freed_none : (table : List Held) (disk : Disk) (f : ℕ) → disk.table f ≡ None → (all_freed table disk).table f ≡ None
+all_freed_none [] disk f none = none
+all_freed_none (held ∷ table) disk f none = freed_none held.file (all_freed table disk) f (all_freed_none table disk f none)
+
+freed_own : (file : Option ℕ) (disk : Disk) (f : ℕ) → file ≡ Some f → (freed file disk).table f ≡ None
+freed_own None disk f is = absurd (cc (is))
+freed_own (Some g) disk f is = let same : g ≡ f = cc (is) in ap (without_file g disk.table) (sym same) ∙ released_own g disk.table
+
+-- a file that is kept is given back
+freed_kept : (table : List Held) (disk : Disk) (link f : ℕ) → file_of (kept_at link table) ≡ Some f → (all_freed table disk).table f ≡ None
+freed_kept [] disk link f is = absurd (cc (is))
+freed_kept (held ∷ table) disk link f is = elim (cases_eq held.link link) [
+  | inl same ↦ freed_own held.file (all_freed table disk) f (sym (ap file_of (kept_at-first link held table same)) ∙ is)
+  | inr apart ↦ freed_none held.file (all_freed table disk) f (freed_kept table disk link f (sym (ap file_of (kept_at-past link held table apart)) ∙ is))
+]
+
+-- where just kept files are open, none is open after it
+pub none_open : (table : List Held) (before after : Disk) → after ≡ all_freed table before → ((f : ℕ) (bytes : List ℕ) → before.table f ≡ Some bytes → (link : ℕ) × (file_of (kept_at link table) ≡ Some f)) → (f : ℕ) → after.table f ≡ None
+none_open table before after is opened f = ap (λ (d : Disk). d.table f) is ∙ by (before.table f) refl
+  where
+    by : (o : Option (List ℕ)) → before.table f ≡ o → (all_freed table before).table f ≡ None
+    by None none = all_freed_none table before f none
+    by (Some bytes) some = let kept = opened f bytes some in freed_kept table before kept.0 f kept.1

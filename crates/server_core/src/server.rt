@@ -2,6 +2,7 @@
 ghost use Rattle.std.specs.Prelude.{◌≡◌, ◌≤◌, ℕ, List, [], IfOk, None};
 ghost use Rattle.buffer_pool.specs.Kept.{HeldWithin};
 ghost use Rattle.lt_world.specs.Disk.{Disk};
+ghost use Rattle.lt_world.specs.Trace.{Entry};
 ghost use Rattle.server_model.specs.Files.{IsTable, Backs};
 ghost use Rattle.server_model.specs.Serves.{Serves};
 ghost use Rattle.server_core.specs.Steps.{seen_as};
@@ -123,6 +124,9 @@ impl Server {
     /// Ends the server: it gives every file back that it keeps. No client is told.
     pub fn close<F: Files>(self, files: &mut F)
         ensures disk { F.tells → F.disk files.new ≡ all_freed self.table (F.disk files.old) }
+
+        // Where it serves, no file is open then.
+        ensures none_open { F.tells → (trace : List Entry) → Serves (F.disk files.old) self trace → (file : ℕ) → (F.disk files.new).table file ≡ None }
         ensures faults { F.faults files.old ≤ F.faults files.new }
         ensures failed_read { F.tells → F.failed_read files.new ≡ F.failed_read files.old }
         ensures later { F.later files.old files.new }
