@@ -1,0 +1,4 @@
+mod OfflineLemmas
+mod RootLemmas
+mod WordsLemmas
+mod RunLemmas

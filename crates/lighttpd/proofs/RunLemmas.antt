@@ -1,0 +1,99 @@
+-- A run, turn by turn.
+use Rattle.std.proofs.Common.{◌≡◌, ℕ, List, [], ◌∷◌, arith, refl, sym, subst, ◌∙◌}
+use Rattle.std.specs.Prelude.{Option, Some, None}
+use Rattle.lt_world.specs.declared.files.Call.{Call}
+use Rattle.lt_world.specs.Disk.{Disk, Tree, own_calls}
+use Rattle.lt_world.specs.Trace.{Entry}
+use Rattle.server_model.specs.Plan.{world_of}
+use Rattle.server_model.specs.Deeds.{own}
+use Rattle.server_model.specs.Client.{stream, IsServedRight}
+use Rattle.server_model.specs.Held.{Held, Serving, kept_at}
+use Rattle.server_model.specs.Serves.{Serves}
+use Rattle.server_model.proofs.Settled.{stands_right}
+use Rattle.server_core.specs.Table.{freed, all_freed}
+use Rattle.lighttpd.specs.Runs.{ServesRight, RunsDue, Served, told_as}
+use Rattle.lt_world.specs.declared.net.Owner.{Owner}
+use Rattle.server_model.specs.Turns.{Seen, IsTurn}
+use Rattle.server_model.specs.Runs.{Told, IsRun, none, more}
+
+abbrev told : Seen → List Entry → Told
+told seen trace = record { seen = seen; trace = trace }
+
+-- a turn more, by a server of the same root
+pub did : (root same : List ℕ) (start : Told) (before after : Seen) (old now : List Entry) → same ≡ root → IsRun root start (told before old) → IsTurn same before after old now → IsRun root start (told after now)
+did root same start before after old now is run one = more run (subst (λ (r : List ℕ). IsTurn r before after old now) is one)
+
+-- nothing was told, and nothing is seen otherwise
+pub rested : (root : List ℕ) (start : Told) (before after : Seen) (old now : List Entry) → IsRun root start (told before old) → after ≡ before → now ≡ old → IsRun root start (told after now)
+rested root start before after old now run seen trace = subst (λ (s : Seen). IsRun root start (told s now)) (sym seen) (subst (λ (t : List Entry). IsRun root start (told before t)) (sym trace) run)
+
+freed_calls : (file : Option ℕ) (disk : Disk) → (freed file disk).calls ≡ disk.calls
+freed_calls None disk = refl
+freed_calls (Some file) disk = refl
+
+-- giving files back makes no call of `find` or `open`
+pub all_freed-calls : (table : List Held) (disk : Disk) → (all_freed table disk).calls ≡ disk.calls
+all_freed-calls [] disk = refl
+all_freed-calls (held ∷ table) disk = freed_calls held.file (all_freed table disk) ∙ all_freed-calls table disk
+
+-- a server that serves served each client right, by the tree and the calls on files alone
+pub serves_right : (disk : Disk) (server : Serving) (trace : List Entry) (root : List ℕ) (tree : Tree) (calls : List Call) → Serves disk server trace → server.root ≡ root → disk.tree ≡ tree → disk.calls ≡ calls → ServesRight root tree calls trace
+serves_right disk server trace root tree calls serves root_is tree_is calls_are link =
+    let right = stands_right disk.table (world_of server.root disk link) (kept_at link server.table) (own link trace) (serves.each link) in
+    let rooted = subst (λ (r : List ℕ). IsServedRight (record { client = link; root = r; tree = disk.tree; calls = own_calls link disk.calls }) (own link trace)) root_is right in
+    let wooded = subst (λ (t : Tree). IsServedRight (record { client = link; root = root; tree = t; calls = own_calls link disk.calls }) (own link trace)) tree_is rooted in
+    subst (λ (c : List Call). IsServedRight (record { client = link; root = root; tree = tree; calls = own_calls link c }) (own link trace)) calls_are wooded
+
+abbrev quiet : Tree → Disk
+quiet tree = record { tree = tree; table = λ file. None; calls = [] }
+
+-- where nothing happened each client was served right, and nothing was due
+unserved_right : (root : List ℕ) (tree : Tree) → ServesRight root tree [] []
+unserved_right root tree link = record {
+  right = record {
+    prefix = (stream (record { client = link; root = root; tree = tree; calls = [] }) [], refl);
+    in_turn = λ k what asked. absurd (omega arith);
+  };
+  clean = λ ended. absurd (cc);
+}
+
+undue : (root : List ℕ) (tree : Tree) → RunsDue root tree [] []
+undue root tree = record {
+  first = told (record { disk = quiet tree; faults = 0; failed_read = None }) [];
+  final = told (record { disk = quiet tree; faults = 0; failed_read = None }) [];
+  begins = refl;
+  tree_is = refl;
+  uncalled = refl;
+  run = none;
+  trace_is = refl;
+  calls_are = refl;
+}
+
+-- the same of a run that was not begun
+pub unserved : (root : List ℕ) (tree : Tree) (calls : List Call) (trace : List Entry) → calls ≡ [] → trace ≡ [] → Served root tree calls trace
+unserved root tree calls trace uncalled untold =
+    let none_called : Served root tree [] [] = record { right = unserved_right root tree; due = undue root tree } in
+    subst (λ (c : List Call). Served root tree c trace) (sym uncalled) (subst (λ (t : List Entry). Served root tree [] t) (sym untold) none_called)
+
+-- the same root and tree under other names
+pub served_as : (root other : List ℕ) (tree wood : Tree) (calls : List Call) (trace : List Entry) → Served root tree calls trace → root ≡ other → tree ≡ wood → Served other wood calls trace
+served_as root other tree wood calls trace served root_is tree_is =
+    subst (λ (t : Tree). Served other t calls trace) tree_is (subst (λ (r : List ℕ). Served r tree calls trace) root_is served)
+
+-- a run after which the server serves, over a tree that stays
+pub serves_all : (disk start : Disk) (server : Serving) (root : List ℕ) (tree : Tree) (calls : List Call) (faults now_faults : ℕ) (failed now_failed : Option Owner) (old trace : List Entry)
+    → old ≡ [] → start.tree ≡ tree → start.calls ≡ [] → Serves disk server trace → server.root ≡ root → disk.tree ≡ tree → disk.calls ≡ calls
+    → IsRun root (told_as start faults failed old) (told_as disk now_faults now_failed trace) → Served root tree calls trace
+serves_all disk start server root tree calls faults now_faults failed now_failed old trace untold start_tree uncalled serves root_is tree_is calls_are run = record {
+  right = serves_right disk server trace root tree calls serves root_is tree_is calls_are;
+  due = record {
+    first = told_as start faults failed old;
+    final = told_as disk now_faults now_failed trace;
+    begins = untold;
+    tree_is = start_tree;
+    uncalled = uncalled;
+    run = run;
+    trace_is = refl;
+    calls_are = calls_are;
+  };
+}

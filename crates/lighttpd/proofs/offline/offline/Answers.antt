@@ -1,0 +1,39 @@
+use Rattle.std.proofs.Common.{◌≡◌, ap, ◌∙◌, subst, map, string_bytes}
+use Rattle.lighttpd.specs.declared.words.Call.{Call}
+use Rattle.lighttpd.specs.Calls.{line_of}
+use Rattle.lighttpd.proofs.WordsLemmas.{one_print}
+use Rattle.lighttpd.specs.Words.{Replay, Print, SpellsLine}
+use Rattle.lighttpd.proofs.offline.offline.Goals as goal
+
+pub returns-in-None-clause-complete : goal.returns-in-None-clause-complete
+returns-in-None-clause-complete g c told conf script root said spelled rooted held = absurd (c.in-None.ensures.none (Replay conf script) spelled)
+
+pub returns-in-None-clause-complete_print : goal.returns-in-None-clause-complete_print
+returns-in-None-clause-complete_print g c told conf tree spelled held = absurd (c.in-None.ensures.none (Print conf) spelled)
+
+pub returns-in-Some-Replay-clause-complete : goal.returns-in-Some-Replay-clause-complete
+returns-in-Some-Replay-clause-complete g c told conf script root said spelled rooted held =
+    let found = subst (λ (call : Call). SpellsLine (map string_bytes c.args.words.now) (line_of call)) c.in-Some-Replay.field-0-is c.in-Some-Replay.ensures.found in
+    let same_conf : c.in-Some-Replay.conf.now ≡ conf = cc in
+    let same_script : c.in-Some-Replay.script.now ≡ script = cc in
+    c.replay.ensures.complete told root said
+    (rooted.0, ap (g.X.Texts.texts c.args.texts.now) same_conf ∙ rooted.1, rooted.2)
+    (held.0, ap (g.X.Texts.texts c.args.texts.now) same_script ∙ held.1, held.2, held.3)
+
+pub returns-in-Some-Print-clause-complete_print : goal.returns-in-Some-Print-clause-complete_print
+returns-in-Some-Print-clause-complete_print g c told conf tree spelled held =
+    let found = subst (λ (call : Call). SpellsLine (map string_bytes c.args.words.now) (line_of call)) c.in-Some-Print.field-0-is c.in-Some-Print.ensures.found in
+    let same = one_print (map string_bytes c.args.words.now) c.in-Some-Print.conf.now conf found spelled in
+    c.print_conf.ensures.complete told tree (held.0, ap (g.X.Texts.texts c.args.texts.now) same ∙ held.1, held.2, held.3)
+
+pub returns-in-None-clause-serves : goal.returns-in-None-clause-serves
+returns-in-None-clause-serves g c told conf script root said spelled rooted held = absurd (c.in-None.ensures.none (Replay conf script) spelled)
+
+pub returns-in-Some-Replay-clause-serves : goal.returns-in-Some-Replay-clause-serves
+returns-in-Some-Replay-clause-serves g c told conf script root said spelled rooted held =
+    let found = subst (λ (call : Call). SpellsLine (map string_bytes c.args.words.now) (line_of call)) c.in-Some-Replay.field-0-is c.in-Some-Replay.ensures.found in
+    let same_conf : c.in-Some-Replay.conf.now ≡ conf = cc in
+    let same_script : c.in-Some-Replay.script.now ≡ script = cc in
+    c.replay.ensures.serves told root said
+    (rooted.0, ap (g.X.Texts.texts c.args.texts.now) same_conf ∙ rooted.1, rooted.2)
+    (held.0, ap (g.X.Texts.texts c.args.texts.now) same_script ∙ held.1, held.2, held.3)

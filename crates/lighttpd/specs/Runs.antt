@@ -1,0 +1,43 @@
+-- How a run finishes, and what it means for each client.
+use Rattle.std.specs.Prelude.{◌≡◌, ℕ, List, [], Option}
+use Rattle.lt_world.specs.declared.net.NextKind.{NextKind}
+use Rattle.lt_world.specs.declared.net.NextKind.TheVariants as kind
+use Rattle.lt_world.specs.declared.net.Owner.{Owner}
+use Rattle.lt_world.specs.declared.files.Call.{Call}
+use Rattle.lt_world.specs.Disk.{Disk, Tree, own_calls}
+use Rattle.lt_world.specs.Trace.{Entry}
+use Rattle.server_model.specs.Client.{IsServedRight}
+use Rattle.server_model.specs.Deeds.{own}
+use Rattle.server_model.specs.Runs.{Told, IsRun}
+use Rattle.lighttpd.specs.declared.run.Finish.{Finish}
+use Rattle.lighttpd.specs.declared.run.Finish.TheVariants as finish
+
+-- by the net's last answer
+abbrev pub FinishFits : Finish → NextKind → Type 0
+FinishFits finish.Over last = last ≡ kind.Over
+FinishFits finish.NoMemory last = last ≡ kind.NoMemory
+
+-- what net and files tell at one time
+abbrev pub told_as : Disk → ℕ → Option Owner → List Entry → Told
+told_as disk faults failed_read trace = record { seen = record { disk = disk; faults = faults; failed_read = failed_read }; trace = trace }
+
+-- each client took a prefix of the stream that the root, the tree, its own bytes and the calls on files for it alone
+-- determine, and all of it where it was closed clean
+abbrev pub ServesRight : List ℕ → Tree → List Call → List Entry → Type 0
+ServesRight root tree calls trace = (link : ℕ) → IsServedRight (record { client = link; root = root; tree = tree; calls = own_calls link calls }) (own link trace)
+
+-- from no event on, each event is followed by what is due for it and by nothing else, up to this trace and these calls
+pub record RunsDue (root : List ℕ) (tree : Tree) (calls : List Call) (trace : List Entry) : Type 0 where
+  pub first : Told
+  pub final : Told
+  pub begins : first.trace ≡ []
+  pub tree_is : first.seen.disk.tree ≡ tree
+  pub uncalled : first.seen.disk.calls ≡ []
+  pub run : IsRun root first final
+  pub trace_is : final.trace ≡ trace
+  pub calls_are : final.seen.disk.calls ≡ calls
+
+-- what a run from a fresh server over a fresh net keeps for its clients
+pub record Served (root : List ℕ) (tree : Tree) (calls : List Call) (trace : List Entry) : Type 0 where
+  pub right : ServesRight root tree calls trace
+  pub due : RunsDue root tree calls trace
