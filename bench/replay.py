@@ -81,8 +81,11 @@ def main():
                 f"{clients:4} clients: {seconds * 1000:8.1f} ms, {rows[-1][1] * 1e6:6.2f} us a write, "
                 f"{memory >> 20:5} MiB, {rows[-1][2]:5.2f} bytes a taken byte"
             )
-        print(f"time of a write, 250 clients against 1: {rows[-1][1] / rows[0][1]:.2f}")
+        growth = rows[-1][1] / rows[0][1]
+        print(f"time of a write, 250 clients against 1: {growth:.2f}")
         print(f"memory of a taken byte, 250 clients against 16: {rows[-1][2] / rows[1][2]:.2f}")
+        if growth >= 1.5:
+            sys.exit("a write takes half as long again with many clients")
 
 
 main()

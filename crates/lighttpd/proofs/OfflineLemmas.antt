@@ -9,23 +9,11 @@ use Rattle.lighttpd.specs.Reading.{HasScript, IsOnly}
 use Rattle.lighttpd.specs.Offline.{PlaySays, ReplaySays, HasSomeRoot, IsComplete}
 use Rattle.lt_script.specs.declared.script.Script.{Script}
 use Rattle.lt_script.specs.declared.script.Step.{Step}
-use Rattle.lt_script.specs.declared.script.Step.TheVariants as step
-use Rattle.lt_script.specs.Steps.{events_of, events_left}
+use Rattle.lt_script.specs.Steps.{events_left}
 use Rattle.lt_script.specs.Playing.{Playing, unplayed, IsLater}
 use Rattle.lt_script.specs.Plays.{Plays, played}
 use Rattle.lt_script.specs.Calls.{Game}
-
--- a step has an event at least
-some_event : (s : Step) (n : ℕ) → events_of s + n ≡ 0 → ⊥
-some_event (step.Accept peer local) n none = omega arith
-some_event (step.Bytes link bytes) n none = omega arith
-some_event (step.End link) n none = omega arith
-some_event (step.Take link size count) n none = omega arith
-
--- where no event is left, no step is
-none_left : (steps : List Step) → events_left steps ≡ 0 → steps ≡ []
-none_left [] none = refl
-none_left (s ∷ steps) none = absurd (some_event s (events_left steps) none)
+use Rattle.lt_script.proofs.Runs.{none_left}
 
 -- what a net came to that began with these steps, and where no event is left, is a play of all of them
 pub plays_all : (steps : List Step) (a b : Playing) → a ≡ unplayed steps → IsLater a b → events_left b.game.left ≡ 0 → Plays steps b.game.trace []

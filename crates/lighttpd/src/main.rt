@@ -1,4 +1,8 @@
-//! The server's program.
+//! The program: `replay` serves the clients of a script, `-p` prints a configuration.
+//! Promised, by `offline`: each client takes a prefix of its own stream, and all of it where it is closed clean; what
+//! is due for an event follows in the same turn; each status comes for its cause, and the first refusal is answered.
+//! Stands on `server_core` for the turns, `lt_script` for the script's net and report, `conf_parse` for the printed
+//! form. Real texts and standard output are read and written in `texts_disk` and `out_sink` alone.
 #![tactic(auto)]
 
 mod offline;

@@ -318,3 +318,19 @@ fn a_configuration_is_printed_and_printed_again(rt: HostRuntime) -> Result<(), F
     assert_eq!(rt; status, conf_fault(ConfKind::Deep, 1));
     Ok(())
 }
+
+#[test]
+fn a_configuration_of_more_than_a_mebibyte_is_too_long(rt: HostRuntime) -> Result<(), Fail> {
+    let alloc = rt.alloc();
+    let mut conf = Text::with_capacity(alloc, 1_048_577)?;
+    for _ in 0..1_048_576 {
+        conf.push(b'#')?;
+    }
+    let (status, output) = call(alloc, "-p -f CONF", conf.bytes(), b"", 0)?;
+    assert_eq!(rt; status, Status::Done);
+    assert_eq!(rt; output.len(), 0);
+    conf.push(b'#')?;
+    let (status, _) = call(alloc, "-p -f CONF", conf.bytes(), b"", 0)?;
+    assert_eq!(rt; status, conf_fault(ConfKind::TooLong, 1));
+    Ok(())
+}
