@@ -5,7 +5,7 @@ use Rattle.lt_world.specs.declared.net.Owner.{Owner}
 use Rattle.lt_world.specs.Disk.{Disk, Node, Missing, Directory, File, IsFileAt, asked, opened}
 use Rattle.lt_world.specs.FileAnswers.{OpensFile}
 use Rattle.server_model.specs.Planning.{CallsFor, PlansError, PlansFile}
-use Rattle.server_model.proofs.Planned.{plans_missing, plans_directory, plans_open_failed, plans_file, calls_find}
+use Rattle.server_model.proofs.Planned.{plans_find_failed, plans_missing, plans_directory, plans_open_failed, plans_file, calls_find}
 use Rattle.server_core.specs.Planned.{Plans, OpensAs}
 use Rattle.server_core.specs.declared.plan.Planned.{Planned}
 use Rattle.server_core.specs.declared.plan.Planned.TheVariants as planned
@@ -39,6 +39,9 @@ module _ (root path place : List ℕ) (owner : Owner) (before found : Disk) (at 
   planned_file (planned.File file size) after bytes time n o = opens_file file.0 size o.0 found after is o.1
   planned_file planned.NoMemory after bytes time n o =
       subst (CallsFor root owner.conn owner.request None before) (sym (o ∙ is)) (calls_find root owner.conn owner.request path owner refl refl before false)
+
+pub planned_failed : (root path : List ℕ) (owner : Owner) (before found : Disk) → found ≡ asked call.Find owner true before → PlansError 500 root owner.conn owner.request path before found
+planned_failed root path owner before found is = subst (PlansError 500 root owner.conn owner.request path before) (sym is) (plans_find_failed root owner.conn owner.request path owner refl refl before)
 
 pub opens_at : (result : Planned) (owner : Owner) (a b : List ℕ) (before after : Disk) → a ≡ b → OpensAs result owner a before after → OpensAs result owner b before after
 opens_at result owner a b before after same o = subst (λ (p : List ℕ). OpensAs result owner p before after) same o

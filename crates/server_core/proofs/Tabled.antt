@@ -1,5 +1,5 @@
 -- A step for one client, in the table.
-use Rattle.std.proofs.Common.{◌≡◌, ℕ, ◌<◌, List, [], ◌∷◌, ◌++◌, length, get_or, set, Option, Some, None, refl, sym, ◌∙◌, ap, subst, arith}
+use Rattle.std.proofs.Common.{◌≡◌, ◌≤◌, ℕ, ◌<◌, List, [], ◌∷◌, ◌++◌, length, get_or, set, Option, Some, None, refl, sym, ◌∙◌, ap, subst, arith}
 use Rattle.std.proofs.lemmas.List.{get_or-set_same}
 use Rattle.buffer_pool.specs.State.{PoolState}
 use Rattle.buffer_pool.specs.Kept.{Kept, HeldWithin}
@@ -33,10 +33,10 @@ module _ (event : Act) (due : Seen → Seen → ℕ → World → World → List
     (link : ℕ) (root : List ℕ) (conns next : List Connected) (held : Held) (now : Option Held) (net files : Type 0) (before after : Seen) (old told_now : List Entry)
     (here : held.link ≡ link) (kept : kept_at link (helds conns) ≡ Some held) (change : Changes link (helds conns) (helds next) now) (backs : files → Backs before.disk.table (helds conns))
     (step : StepsBy Stands (due before after held.link) root held now net files before.disk after.disk old told_now) where
-  pub conns_turn : TurnsOn event link (serving root conns) (serving root next) net files before after old told_now
-  conns_turn =
+  pub conns_turn : before.faults ≤ after.faults → TurnsOn event link (serving root conns) (serving root next) net files before after old told_now
+  conns_turn rises =
       let P : ℕ → Type 0 = λ l. (kept_at l (helds conns) ≡ Some held) → Changes l (helds conns) (helds next) now → TurnsOn event l (serving root conns) (serving root next) net files before after old told_now in
-      subst P here (λ k ch. turn_step event due ready is_due root (helds conns) (helds next) held now net files before after old told_now k ch backs step) kept change
+      subst P here (λ k ch. turn_step event due ready is_due root (helds conns) (helds next) held now net files before after old told_now k ch backs step rises) kept change
 
   pub conns_backs : files → Backs after.disk.table (helds next)
   conns_backs f =

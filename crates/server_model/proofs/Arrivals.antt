@@ -21,6 +21,7 @@ use Rattle.server_model.proofs.Owned.{own-told, own_unnamed}
 use Rattle.server_model.proofs.FileSteps.{same_files}
 use Rattle.server_model.proofs.Frames.{frame, backs_on}
 use Rattle.server_model.proofs.Changing.{Changes, adds, leaves}
+use Rattle.server_model.proofs.Turning.{grows_none}
 use Rattle.server_model.proofs.Replying.{first_alone}
 use Rattle.server_model.proofs.Clients.{AwaitsFirst, awaits_matches}
 use Rattle.server_model.proofs.Moves.{arrives}
@@ -96,6 +97,7 @@ module _ (link : ℕ) (peer local : Address) (root : List ℕ) (table next : Lis
             parts = record { client = link; deeds = [] } ∷ [];
             gains = gained;
             due = (refl, tt, subst (DueArrival peer local (own link trace)) (sym (ap (own link) gained ∙ one)) DueArrival.comes);
+            grows = grows_none seen;
           },
         )
 
@@ -120,5 +122,6 @@ module _ (link : ℕ) (peer local : Address) (root : List ℕ) (table next : Lis
             parts = record { client = link; deeds = Ours (Close ending.NoMemory) ∷ [] } ∷ [];
             gains = is;
             due = (refl, (refl, tt), subst (DueArrival peer local (own link trace)) (sym (ap (own link) is ∙ two)) DueArrival.refused);
+            grows = grows_none seen;
           },
         )

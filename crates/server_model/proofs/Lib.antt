@@ -12,6 +12,7 @@ pub mod Tables
 pub mod Changing
 pub mod Frames
 pub mod Turning
+pub mod Running
 pub mod Arrivals
 pub mod Standing
 pub mod Stepping

@@ -1,5 +1,5 @@
 -- How a step for one client makes a turn of the server.
-use Rattle.std.proofs.Common.{◌≡◌, ℕ, List, [], ◌∷◌, ◌++◌, Option, Some, None, false, refl, sym, ◌∙◌, ap, subst}
+use Rattle.std.proofs.Common.{◌≡◌, ◌≤◌, arith, ℕ, List, [], ◌∷◌, ◌++◌, Option, Some, None, false, refl, sym, ◌∙◌, ap, subst}
 use Rattle.lt_world.specs.Disk.{Disk, Table}
 use Rattle.lt_world.specs.Trace.{Act, Entry, Readable, Writable}
 use Rattle.server_model.specs.Plan.{World, world_of}
@@ -9,7 +9,7 @@ use Rattle.server_model.specs.Held.{Held, Serving, kept_at}
 use Rattle.server_model.specs.Files.{file_of, Fits, FitsFor, Backs, FileStep}
 use Rattle.server_model.specs.Serves.{Stands, IsGone, StandsFor, Serves}
 use Rattle.server_model.specs.Due.{Due, DueRead, DueWrite}
-use Rattle.server_model.specs.Turns.{Seen, ReadFailed, StepsBy, TurnsOn}
+use Rattle.server_model.specs.Turns.{Seen, ReadFailed, Grows, StepsBy, TurnsOn}
 use Rattle.server_model.proofs.Owned.{own-told}
 use Rattle.server_model.proofs.Frames.{frame, backs_on}
 use Rattle.server_model.proofs.Changing.{Changes}
@@ -86,8 +86,8 @@ module _ (event : Act) (due : Seen → Seen → ℕ → World → World → List
       ap (own held.link) (gains_now n trace gained) ∙ own-told held.link step.deeds (record { link = held.link; act = event } ∷ trace) step.are ∙ ap (λ d. step.deeds ++ d) (ready held.link held.link trace)
 
   -- a step of a client that is kept is a turn of the server
-  pub turn_step : TurnsOn event held.link (record { root = root; table = table }) (record { root = root; table = next }) net files before after old told_now
-  turn_step n f trace gained new serves =
+  pub turn_step : before.faults ≤ after.faults → TurnsOn event held.link (record { root = root; table = table }) (record { root = root; table = next }) net files before after old told_now
+  turn_step rises n f trace gained new serves =
       let both = step.keeps f (own held.link trace) (stands trace serves) in
       let here = subst (λ d. StandsFor after.disk.table (world_of root after.disk held.link) now (step.deeds ++ d)) (sym (ready held.link held.link trace)) both.0 in
       let P : List Entry → Type 0 = Serves after.disk (record { root = root; table = next }) in (
@@ -105,8 +105,12 @@ module _ (event : Act) (due : Seen → Seen → ℕ → World → World → List
             subst (Due event (λ k. ReadFailed held.link k before after) (world_of root before.disk held.link) (world_of root after.disk held.link) (own held.link trace)) (sym (own_now n trace gained))
                 (is_due before after held.link (world_of root before.disk held.link) (world_of root after.disk held.link) (own held.link trace) (step.deeds ++ own held.link trace) both.1),
           );
+          grows = record { tree = (step.does f).tree; log = (step.does f).log; faults = rises };
         },
       )
+
+pub grows_none : (seen : Seen) → Grows seen seen
+grows_none seen = record { tree = refl; log = ([], refl); faults = omega arith }
 
 -- nothing is due for a link that isn't kept
 abbrev pub IsQuiet : Act → Type 0
@@ -137,5 +141,6 @@ turn_out event ready quiet link server net files seen old none n f trace gained 
           subst (Due event (λ k. ReadFailed link k seen seen) (world_of server.root seen.disk link) (world_of server.root seen.disk link) (own link trace)) (sym same)
               (quiet link seen (world_of server.root seen.disk link) (own link trace) (none_gone link seen.disk server trace none serves).shut),
         );
+        grows = grows_none seen;
       },
     )

@@ -1,5 +1,6 @@
 -- One turn: an event, and what is done for each client that it concerns.
-use Rattle.std.specs.Prelude.{◌≡◌, ℕ, List, [], ◌∷◌, ◌++◌, false, Option, Some, None}
+use Rattle.std.specs.Prelude.{◌≡◌, ◌≤◌, ℕ, List, [], ◌∷◌, ◌++◌, false, Option, Some, None}
+use Rattle.lt_world.specs.declared.files.Call.{Call}
 use Rattle.lt_world.specs.declared.net.Ending.{Ending}
 use Rattle.lt_world.specs.declared.net.Ending.TheVariants as ending
 use Rattle.lt_world.specs.declared.net.Owner.{Owner}
@@ -49,6 +50,12 @@ DueParts root event link [] before after old now = ⊥
 DueParts root event link (p ∷ []) before after old now = (p.client ≡ link) × AreDeeds p.deeds × DueFor root event p.client before after old now
 DueParts root event link (p ∷ q ∷ parts) before after old now = ⊥
 
+-- no call on the files is forgotten, and the tree stays
+pub record Grows (before after : Seen) : Type 0 where
+  pub tree : after.disk.tree ≡ before.disk.tree
+  pub log : (more : List Call) × (more ++ before.disk.calls ≡ after.disk.calls)
+  pub faults : before.faults ≤ after.faults
+
 -- a trace gains an event of a link, and what is due for it
 pub record IsTurn (root : List ℕ) (before after : Seen) (old now : List Entry) : Type 0 where
   pub link : ℕ
@@ -56,6 +63,7 @@ pub record IsTurn (root : List ℕ) (before after : Seen) (old now : List Entry)
   pub parts : List Part
   pub gains : now ≡ all_told parts (record { link = link; act = event } ∷ old)
   pub due : DueParts root event link parts before after old now
+  pub grows : Grows before after
 
 -- one client that is kept, in a state that `From` names, goes on by some deeds, as is due, whatever its past
 pub record StepsBy (From : Table → World → Held → List Act → Type 0) (due : World → World → List Deed → List Deed → Type 0) (root : List ℕ) (held : Held) (next : Option Held) (net files : Type 0) (before after : Disk) (old now : List Entry) : Type 0 where

@@ -11,6 +11,8 @@ ghost use Rattle.server_model.specs.Deeds.{Deed, own, told, deeds_in, AreDeeds};
 ghost use Rattle.server_model.specs.Client.{input_of, stream, IsServedRight};
 ghost use Rattle.server_model.specs.Held.{Serving};
 ghost use Rattle.server_model.specs.Serves.{Serves};
+ghost use Rattle.server_model.specs.Turns.{Grows};
+ghost use Rattle.server_model.specs.Runs.{Told, IsRun};
 
 /// A server with no client serves where nothing happened yet and no file is open.
 pub fn starts()
@@ -21,6 +23,11 @@ pub fn starts()
 /// it where it was closed clean.
 pub fn served_right()
     ensures right { (disk : Disk) (server : Serving) (trace : List Entry) → Serves disk server trace → (link : ℕ) → IsServedRight (world_of server.root disk link) (own link trace) }
+{}
+
+/// In a run the tree stays, no call on the files is forgotten, and the count of those that failed never falls.
+pub fn runs_grow()
+    ensures grows { (root : List ℕ) (before after : Told) → IsRun root before after → Grows before.seen after.seen }
 {}
 
 /// A client's meaning depends on the acts of its own link alone.

@@ -1,6 +1,6 @@
 use Rattle.std.proofs.Common.{◌∙◌, sym, subst, List, ℕ}
 use Rattle.lt_world.specs.Disk.{IsFileAt}
-use Rattle.server_core.proofs.Planning.{planned_missing, planned_directory, planned_file, found_file, opens_at}
+use Rattle.server_core.proofs.Planning.{planned_failed, planned_missing, planned_directory, planned_file, found_file, opens_at}
 use Rattle.server_core.proofs.plan.plan.Goals as goal
 
 pub open-requires : goal.open-requires
@@ -20,3 +20,6 @@ returns-in-Directory-clause-plans g c told = planned_directory c.args.root.now c
 
 pub returns-in-Missing-clause-plans : goal.returns-in-Missing-clause-plans
 returns-in-Missing-clause-plans g c told = planned_missing c.args.root.now c.args.path.now c.bytes.result.now c.args.owner (g.F.Files.disk c.args.files.now) (g.F.Files.disk c.find.new.self) (c.bytes.ensures.value ∙ c.in-Ok.ensures) (c.in-Missing.ensures.disk told) (c.in-Missing.ensures.right told)
+
+pub returns-in-Failed-clause-plans : goal.returns-in-Failed-clause-plans
+returns-in-Failed-clause-plans g c told = planned_failed c.args.root.now c.args.path.now c.args.owner (g.F.Files.disk c.args.files.now) (g.F.Files.disk c.find.new.self) (c.in-Failed.ensures.disk told)

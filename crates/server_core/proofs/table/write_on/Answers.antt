@@ -30,7 +30,7 @@ pub returns-in_default-write_for-clause-turn : goal.returns-in_default-write_for
 returns-in_default-write_for-clause-turn g c root = conns_turn Writable due_write writable_ready writable_due c.args.link.0 root c.args.conns.now.items (set c.args.conns.now.items c.in-Some.i c.write_for.new.conn) c.index_mut-conn.result.now.held (Some c.write_for.new.conn.held) g.N.Net.tells g.F.Files.tells (seen_as (g.F.Files.disk c.args.files.now) (g.F.Files.faults c.args.files.now) (g.F.Files.failed_read c.args.files.now)) (seen_as (g.F.Files.disk c.write_for.new.files) (g.F.Files.faults c.write_for.new.files) (g.F.Files.failed_read c.write_for.new.files)) (g.N.Net.trace c.args.net.now) (g.N.Net.trace c.write_for.new.net)
     (place_link c.args.link.0 c.args.conns.now.items c.in-Some.i c.index_mut-conn.result.now (place_as c.args.link.0 c.args.conns.now.items c.deref.result.now c.in-Some.i c.deref.ensures.value c.in-Some.ensures) c.index_mut-conn.ensures.value) (place_kept c.args.link.0 c.args.conns.now.items c.in-Some.i c.index_mut-conn.result.now (place_as c.args.link.0 c.args.conns.now.items c.deref.result.now c.in-Some.i c.deref.ensures.value c.in-Some.ensures) c.index_mut-conn.ensures.value c.requires.kept.rising)
     (place_set c.args.link.0 c.args.conns.now.items c.in-Some.i c.index_mut-conn.result.now (place_as c.args.link.0 c.args.conns.now.items c.deref.result.now c.in-Some.i c.deref.ensures.value c.in-Some.ensures) c.index_mut-conn.ensures.value c.requires.kept.rising c.write_for.new.conn c.write_for.ensures.link) c.requires.backs
-    (c.in_default-write_for.ensures.goes root (seen_as (g.F.Files.disk c.write_for.new.files) (g.F.Files.faults c.write_for.new.files) (g.F.Files.failed_read c.write_for.new.files)) (omega arith) (λ f. refl))
+    (c.in_default-write_for.ensures.goes root (seen_as (g.F.Files.disk c.write_for.new.files) (g.F.Files.faults c.write_for.new.files) (g.F.Files.failed_read c.write_for.new.files)) (omega arith) (λ f. refl)) c.in_default-write_for.ensures.faults
 
 pub returns-in_default-write_for-clause-kept : goal.returns-in_default-write_for-clause-kept
 returns-in_default-write_for-clause-kept g c = place_set_kept c.args.link.0 c.args.conns.now.items c.in-Some.i c.index_mut-conn.result.now (place_as c.args.link.0 c.args.conns.now.items c.deref.result.now c.in-Some.i c.deref.ensures.value c.in-Some.ensures) c.index_mut-conn.ensures.value c.args.store.now c.requires.kept c.write_for.new.conn c.write_for.new.store c.write_for.ensures.kept c.write_for.ensures.link c.in_default-write_for.ensures.waits
@@ -56,7 +56,7 @@ returns-clause-turn g c root = conns_turn Writable due_write writable_ready writ
     (place_link c.args.link.0 c.args.conns.now.items c.in-Some.i c.index_mut-conn.result.now (place_as c.args.link.0 c.args.conns.now.items c.deref.result.now c.in-Some.i c.deref.ensures.value c.in-Some.ensures) c.index_mut-conn.ensures.value) (place_kept c.args.link.0 c.args.conns.now.items c.in-Some.i c.index_mut-conn.result.now (place_as c.args.link.0 c.args.conns.now.items c.deref.result.now c.in-Some.i c.deref.ensures.value c.in-Some.ensures) c.index_mut-conn.ensures.value c.requires.kept.rising)
     (place_removed c.args.link.0 c.args.conns.now.items c.in-Some.i c.index_mut-conn.result.now (place_as c.args.link.0 c.args.conns.now.items c.deref.result.now c.in-Some.i c.deref.ensures.value c.in-Some.ensures) c.index_mut-conn.ensures.value c.requires.kept.rising c.finish.new.conn c.remove.new.self.items c.remove.ensures.by_index.2) c.requires.backs
     (stop_closed Stands (DueWrite (FailsFor c.index_mut-conn.result.now.held.link (seen_as (g.F.Files.disk c.args.files.now) (g.F.Files.faults c.args.files.now) (g.F.Files.failed_read c.args.files.now)) (seen_as (g.F.Files.disk c.finish.new.files) (g.F.Files.faults c.finish.new.files) (g.F.Files.failed_read c.finish.new.files)))) root c.index_mut-conn.result.now.held c.write_for.new.conn.held c.in-Some-write_for.ending g.N.Net.tells g.F.Files.tells (g.F.Files.disk c.args.files.now) (g.F.Files.disk c.write_for.new.files) (g.F.Files.disk c.finish.new.files) (g.N.Net.trace c.args.net.now) (g.N.Net.trace c.write_for.new.net) (g.N.Net.trace c.finish.new.net)
-    (c.in-Some-write_for.ensures.goes root (seen_as (g.F.Files.disk c.finish.new.files) (g.F.Files.faults c.finish.new.files) (g.F.Files.failed_read c.finish.new.files)) c.finish.ensures.faults c.finish.ensures.failed_read) c.finish.ensures.trace c.finish.ensures.drops)
+    (c.in-Some-write_for.ensures.goes root (seen_as (g.F.Files.disk c.finish.new.files) (g.F.Files.faults c.finish.new.files) (g.F.Files.failed_read c.finish.new.files)) c.finish.ensures.faults c.finish.ensures.failed_read) c.finish.ensures.trace c.finish.ensures.drops) (omega (arith, c.write_for.ensures.faults, c.finish.ensures.faults))
 
 pub returns-clause-kept : goal.returns-clause-kept
 returns-clause-kept g c = place_removed_kept c.args.link.0 c.args.conns.now.items c.in-Some.i c.index_mut-conn.result.now (place_as c.args.link.0 c.args.conns.now.items c.deref.result.now c.in-Some.i c.deref.ensures.value c.in-Some.ensures) c.index_mut-conn.ensures.value c.args.store.now c.requires.kept c.write_for.new.conn c.write_for.new.store c.write_for.ensures.kept c.close.new.store (kept_as c.write_for.new.store c.close.new.store c.remove.result.numbers c.write_for.new.conn.numbers (taken_out c.args.conns.now.items c.in-Some.i c.finish.new.conn c.remove.result c.write_for.new.conn.numbers (place_below c.args.link.0 c.args.conns.now.items c.in-Some.i c.index_mut-conn.result.now (place_as c.args.link.0 c.args.conns.now.items c.deref.result.now c.in-Some.i c.deref.ensures.value c.in-Some.ensures) c.index_mut-conn.ensures.value) c.remove.ensures.value c.finish.ensures.numbers) c.close.ensures) c.finish.new.conn c.remove.new.self.items c.remove.ensures.by_index.2
