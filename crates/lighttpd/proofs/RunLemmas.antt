@@ -67,6 +67,7 @@ undue root tree = record {
   run = none;
   trace_is = refl;
   calls_are = refl;
+  calm = refl;
 }
 
 -- the same of a run that was not begun
@@ -82,9 +83,9 @@ served_as root other tree wood calls trace served root_is tree_is =
 
 -- a run after which the server serves, over a tree that stays
 pub serves_all : (disk start : Disk) (server : Serving) (root : List ℕ) (tree : Tree) (calls : List Call) (faults now_faults : ℕ) (failed now_failed : Option Owner) (old trace : List Entry)
-    → old ≡ [] → start.tree ≡ tree → start.calls ≡ [] → Serves disk server trace → server.root ≡ root → disk.tree ≡ tree → disk.calls ≡ calls
+    → old ≡ [] → now_faults ≡ faults → start.tree ≡ tree → start.calls ≡ [] → Serves disk server trace → server.root ≡ root → disk.tree ≡ tree → disk.calls ≡ calls
     → IsRun root (told_as start faults failed old) (told_as disk now_faults now_failed trace) → Served root tree calls trace
-serves_all disk start server root tree calls faults now_faults failed now_failed old trace untold start_tree uncalled serves root_is tree_is calls_are run = record {
+serves_all disk start server root tree calls faults now_faults failed now_failed old trace untold calm start_tree uncalled serves root_is tree_is calls_are run = record {
   right = serves_right disk server trace root tree calls serves root_is tree_is calls_are;
   due = record {
     first = told_as start faults failed old;
@@ -95,5 +96,6 @@ serves_all disk start server root tree calls faults now_faults failed now_failed
     run = run;
     trace_is = refl;
     calls_are = calls_are;
+    calm = calm;
   };
 }

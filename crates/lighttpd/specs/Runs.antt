@@ -36,6 +36,8 @@ pub record RunsDue (root : List ℕ) (tree : Tree) (calls : List Call) (trace : 
   pub run : IsRun root first final
   pub trace_is : final.trace ≡ trace
   pub calls_are : final.seen.disk.calls ≡ calls
+  -- no call on the files failed, so no client was closed for a file's fault
+  pub calm : final.seen.faults ≡ first.seen.faults
 
 -- what a run from a fresh server over a fresh net keeps for its clients
 pub record Served (root : List ℕ) (tree : Tree) (calls : List Call) (trace : List Entry) : Type 0 where
