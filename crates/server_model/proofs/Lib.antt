@@ -13,6 +13,7 @@ pub mod Changing
 pub mod Frames
 pub mod Turning
 pub mod Running
+pub mod Faults
 pub mod Arrivals
 pub mod Standing
 pub mod Stepping

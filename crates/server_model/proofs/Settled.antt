@@ -132,7 +132,7 @@ closes world deeds e right clean = record {
 pub fails_right : (world : World) (acts : List Act) (way : Rattle.lt_world.specs.Trace.Way) → IsRight world acts → IsRight world (Failed way ∷ acts)
 fails_right world acts way right = record { prefix = right.prefix; in_turn = λ k what some. let p = right.in_turn k what some in record { before = p.before; passed = p.passed; taken = p.taken; whole = p.whole } }
 
-open_has_no_ending : (acts : List Act) → is_open acts ≡ true → ending_of acts ≡ None
+pub open_has_no_ending : (acts : List Act) → is_open acts ≡ true → ending_of acts ≡ None
 open_has_no_ending [] is = absurd (cc (is))
 open_has_no_ending (Accepted peer local ∷ acts) is = refl
 open_has_no_ending (Readable ∷ acts) is = open_has_no_ending acts is

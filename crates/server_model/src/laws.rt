@@ -1,14 +1,16 @@
 //! The laws on the definitions: each function does nothing, and its clauses are theorems.
-ghost use Rattle.std.specs.Prelude.{◌≡◌, ◌≢◌, ℕ, ◌+◌, ◌-◌, ◌<◌, ◌≤◌, take, drop, List, [], ◌∷◌, ◌++◌, Bool, true, Some, None};
+ghost use Rattle.std.specs.Prelude.{◌≡◌, ◌≢◌, ◌⊎◌, ℕ, ◌+◌, ◌-◌, ◌<◌, ◌≤◌, take, drop, List, [], ◌∷◌, ◌++◌, Bool, true, Some, None};
 ghost use Rattle.lt_world.specs.declared.files.FileCall.{FileCall};
+ghost use Rattle.lt_world.specs.declared.net.Ending.TheVariants as ending;
+ghost use Rattle.lt_world.specs.Causes.{Rose};
 ghost use Rattle.lt_world.specs.Disk.{Disk};
 ghost use Rattle.lt_world.specs.Trace.{Act, Entry, own as link_acts};
 ghost use Rattle.server_model.specs.Request.{Request, Complete, Refused, request_of, head_end, empty_line, method, version, is_path, target_of};
 ghost use Rattle.server_model.specs.Plan.{World, world_of, with_call};
 ghost use Rattle.server_model.specs.Reply.{reply};
 ghost use Rattle.server_model.specs.Stream.{IsPrefix, Passed, replies_to, stream_of};
-ghost use Rattle.server_model.specs.Deeds.{Deed, own, told, deeds_in, AreDeeds};
-ghost use Rattle.server_model.specs.Client.{input_of, stream, IsServedRight};
+ghost use Rattle.server_model.specs.Deeds.{Deed, own, ours, told, deeds_in, AreDeeds};
+ghost use Rattle.server_model.specs.Client.{input_of, ending_of, stream, IsServedRight};
 ghost use Rattle.server_model.specs.Held.{Serving};
 ghost use Rattle.server_model.specs.Serves.{Serves};
 ghost use Rattle.server_model.specs.Turns.{Grows};
@@ -28,6 +30,10 @@ pub fn served_right()
 /// In a run the tree stays, no call on the files is forgotten, and the count of those that failed never falls.
 pub fn runs_grow()
     ensures grows { (root : List ℕ) (before after : Told) → IsRun root before after → Grows before.seen after.seen }
+
+    // A client is closed for a file's fault only where that count rose in the run.
+    ensures faults { (root : List ℕ) (before after : Told) → IsRun root before after → (client : ℕ) → ending_of (ours (own client after.trace)) ≡ Some ending.FileFault
+        → (ending_of (ours (own client before.trace)) ≡ Some ending.FileFault) ⊎ Rose before.seen.faults after.seen.faults }
 {}
 
 /// A client's meaning depends on the acts of its own link alone.
