@@ -76,7 +76,7 @@ FirstStaged-append : (l m : List ChunkState) → 0 < length l → FirstStaged (s
 FirstStaged-append [] m some hl hm = absurd (omega arith)
 FirstStaged-append (c ∷ l) m some hl hm = NoneStaged-append l m hl hm
 
-items_of_chunks-append : (l m : List ChunkState) → items_of_chunks (l ++ m) ≡ items_of_chunks l ++ items_of_chunks m
+pub items_of_chunks-append : (l m : List ChunkState) → items_of_chunks (l ++ m) ≡ items_of_chunks l ++ items_of_chunks m
 items_of_chunks-append [] m = refl
 items_of_chunks-append (c ∷ l) m = ap (λ (i : List Item). chunk_items (chunk_of (segment_of c)) ++ i) (items_of_chunks-append l m) ∙ sym (append_assoc (chunk_items (chunk_of (segment_of c))) (items_of_chunks l) (items_of_chunks m))
 

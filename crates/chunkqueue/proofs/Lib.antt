@@ -3,10 +3,12 @@ pub mod Leaving
 pub mod Pieces
 pub mod Calls
 pub mod Copying
+pub mod Cutting
 pub mod Pooling
 pub mod Queues
 pub mod Ranges
 pub mod Segments
+pub mod Parting
 pub mod Staging
 pub mod Taking
 pub mod Viewing

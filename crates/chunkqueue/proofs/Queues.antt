@@ -30,6 +30,9 @@ push_room q l len n view had fits = omega (arith, count_is q l len view had, had
 pub join_room : (q r : Contents) (l m : List ChunkState) (len more : ℕ) → pooled l ≡ q → pooled m ≡ r → IsPooled l len → IsPooled m more → count_of q + count_of r < 2 ^ 63 → length l + length m < 2 ^ 64
 join_room q r l m len more view behind had too fits = omega (arith, count_is q l len view had, count_is r m more behind too, had.counts, too.counts, chunks_within l had.kept, chunks_within m too.kept)
 
+pub steal_room : (l m : List ChunkState) (len more : ℕ) → IsPooled l len → IsPooled m more → length l + length m + 1 < 2 ^ 64
+steal_room l m len more had too = omega (arith, had.counts, had.fits, too.counts, too.fits, chunks_within l had.kept, chunks_within m too.kept)
+
 -- the queue with items behind
 pub gained_pooled : (q : Contents) (l next : List ChunkState) (len n : ℕ) (more : List Item) → pooled l ≡ q → IsPooled l len → Gains l next more → length more ≡ n → count_of q + n < 2 ^ 63 → IsPooled next (len + n)
 gained_pooled q l next len n more view had gains size fits = record {

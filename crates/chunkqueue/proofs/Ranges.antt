@@ -40,7 +40,7 @@ bytes_of-range table file start (suc len) bytes is h =
     let rest : bytes_of table (range file (start + 1) len) ≡ take len (drop (start + 1) bytes) = bytes_of-range table file (start + 1) len bytes is (omega arith) in
     rw (drop-cons bytes start 0) (same_cons (byte_at table file start bytes is) (rest ∙ next_dropped start len bytes))
 
-take-range : (file start len n : ℕ) → n ≤ len → take n (range file start len) ≡ range file start n
+pub take-range : (file start len n : ℕ) → n ≤ len → take n (range file start len) ≡ range file start n
 take-range file start len zero h = refl
 take-range file start zero (suc n) h = absurd (omega arith)
 take-range file start (suc len) (suc n) h = ap (λ (items : List Item). FileByte file start ∷ items) (take-range file (start + 1) len n (omega arith))

@@ -25,20 +25,20 @@ pub segment_items-append : (a b : List Segment) → segment_items (a ++ b) ≡ s
 segment_items-append [] b = refl
 segment_items-append (s ∷ ss) b = ap (λ (items : List Item). chunk_items (chunk_of s) ++ items) (segment_items-append ss b) ∙ sym (append_assoc (chunk_items (chunk_of s)) (segment_items ss) (segment_items b))
 
-AllHeld-append : (a b : List Segment) → AllHeld a → AllHeld b → AllHeld (a ++ b)
+pub AllHeld-append : (a b : List Segment) → AllHeld a → AllHeld b → AllHeld (a ++ b)
 AllHeld-append [] b ha hb = hb
 AllHeld-append (s ∷ ss) b ha hb = (ha.0, AllHeld-append ss b ha.1 hb)
 
-NoneStaged-append : (a b : List Segment) → NoneStaged a → NoneStaged b → NoneStaged (a ++ b)
+pub NoneStaged-append : (a b : List Segment) → NoneStaged a → NoneStaged b → NoneStaged (a ++ b)
 NoneStaged-append [] b ha hb = hb
 NoneStaged-append (s ∷ ss) b ha hb = (ha.0, NoneStaged-append ss b ha.1 hb)
 
 -- a segment at the end
-FirstStaged-push : (a : List Segment) (s : Segment) → FirstStaged a → segment_staged s ≡ [] → FirstStaged (a ++ s ∷ [])
+pub FirstStaged-push : (a : List Segment) (s : Segment) → FirstStaged a → segment_staged s ≡ [] → FirstStaged (a ++ s ∷ [])
 FirstStaged-push [] s ha none = tt
 FirstStaged-push (x ∷ xs) s ha none = NoneStaged-append xs (s ∷ []) ha (none, tt)
 
-segment_items-push : (a : List Segment) (s : Segment) → segment_items (a ++ s ∷ []) ≡ segment_items a ++ chunk_items (chunk_of s)
+pub segment_items-push : (a : List Segment) (s : Segment) → segment_items (a ++ s ∷ []) ≡ segment_items a ++ chunk_items (chunk_of s)
 segment_items-push a s = segment_items-append a (s ∷ []) ∙ ap (λ (items : List Item). segment_items a ++ items) (append-nil (chunk_items (chunk_of s)))
 
 pub pushed_items : (q : Contents) (segments next : List Segment) (s : Segment) → plain segments ≡ q → next ≡ segments ++ s ∷ [] → segment_items next ≡ items_of q ++ chunk_items (chunk_of s)
@@ -61,7 +61,7 @@ segment_left-after : (n : ℕ) (s : Segment) → segment_left (segment_after n s
 segment_left-after n (Memory bytes) = length-drop n bytes
 segment_left-after n (File r) = refl
 
-some_left : (s : Segment) → IsHeld s → 0 < segment_left s
+pub some_left : (s : Segment) → IsHeld s → 0 < segment_left s
 some_left (Memory bytes) held = held
 some_left (File r) held = held.0
 
@@ -92,11 +92,11 @@ segment_items-after n (s ∷ ss) held h =
     ∙ ap (λ (items : List Item). items ++ segment_items ss) (chunk_items-after n s within)
     ∙ sym (drop-append-le n (chunk_items (chunk_of s)) (segment_items ss) short)
 
-NoneStaged-first : (segments : List Segment) → NoneStaged segments → FirstStaged segments
+pub NoneStaged-first : (segments : List Segment) → NoneStaged segments → FirstStaged segments
 NoneStaged-first [] none = tt
 NoneStaged-first (s ∷ ss) none = none.1
 
-NoneStaged-staged : (segments : List Segment) → NoneStaged segments → staged_in (chunks_of segments) ≡ []
+pub NoneStaged-staged : (segments : List Segment) → NoneStaged segments → staged_in (chunks_of segments) ≡ []
 NoneStaged-staged [] none = refl
 NoneStaged-staged (Memory bytes ∷ ss) none = refl
 NoneStaged-staged (File r ∷ ss) none = none.0
@@ -180,12 +180,12 @@ front_leads (Memory (byte ∷ bytes) ∷ ss) held = leads-memory BUFFER_SIZE byt
 front_leads (File r ∷ ss) held = leads-range r.file r.start r.len (segment_items ss) r.staged held.0.0
 
 -- segments behind others are not staged
-AllHeld-unstaged : (segments : List Segment) → AllHeld segments → AllHeld (segments_unstaged segments)
+pub AllHeld-unstaged : (segments : List Segment) → AllHeld segments → AllHeld (segments_unstaged segments)
 AllHeld-unstaged [] held = tt
 AllHeld-unstaged (Memory bytes ∷ ss) held = held
 AllHeld-unstaged (File r ∷ ss) held = ((held.0.0, omega arith), held.1)
 
-NoneStaged-unstaged : (segments : List Segment) → FirstStaged segments → NoneStaged (segments_unstaged segments)
+pub NoneStaged-unstaged : (segments : List Segment) → FirstStaged segments → NoneStaged (segments_unstaged segments)
 NoneStaged-unstaged [] first = tt
 NoneStaged-unstaged (Memory bytes ∷ ss) first = (refl, first)
 NoneStaged-unstaged (File r ∷ ss) first = (refl, first)

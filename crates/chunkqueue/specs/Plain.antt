@@ -1,7 +1,7 @@
 -- The segments of a plain queue, and what its calls make of them.
-use Rattle.std.specs.Prelude.{◌≡◌, ℕ, ◌==◌, ◌≤◌, ◌<◌, ◌^◌, List, [], ◌∷◌, ◌++◌, map, take, drop, length, min, if◌then◌else◌}
+use Rattle.std.specs.Prelude.{◌≡◌, ℕ, ◌+◌, ◌==◌, ◌≤◌, ◌<◌, ◌^◌, List, [], ◌∷◌, ◌++◌, map, take, drop, length, min, if◌then◌else◌}
 use Rattle.lt_world.specs.Disk.{Disk, HasRange}
-use Rattle.chunkqueue.specs.Ranged.{without_front, unstaged, staged_from}
+use Rattle.chunkqueue.specs.Ranged.{without_front, front_of_range, rest_of_range, unstaged, staged_from}
 use Rattle.chunkqueue.specs.Items.{Item, Chunk, Contents, Memory, Range, items_in, staging_by}
 use Rattle.buffer_pool.specs.declared.buffer.TheConstants.{BUFFER_SIZE}
 use Rattle.chunkqueue.specs.declared.segment.Segment.{Segment}
@@ -126,3 +126,43 @@ abbrev pub memory_before : List Segment → List ℕ
 memory_before [] = []
 memory_before (segment.Memory bytes ∷ ss) = bytes ++ memory_before ss
 memory_before (segment.File r ∷ ss) = []
+
+-- the first n items of a segment, and the rest of it
+abbrev pub segment_front : ℕ → Segment → Segment
+segment_front n (segment.Memory bytes) = segment.Memory (take n bytes)
+segment_front n (segment.File r) = segment.File (front_of_range n r)
+
+abbrev pub segment_rest : ℕ → Segment → Segment
+segment_rest n (segment.Memory bytes) = segment.Memory (drop n bytes)
+segment_rest n (segment.File r) = segment.File (rest_of_range n r)
+
+abbrev pub first_left : List Segment → ℕ
+first_left [] = 0
+first_left (s ∷ ss) = segment_left s
+
+-- the first n items of the first segment, and the segments without them
+abbrev pub part_of : ℕ → List Segment → List Segment
+part_of n [] = []
+part_of n (s ∷ ss) = segment_front n s ∷ []
+
+abbrev pub rest_of : ℕ → List Segment → List Segment
+rest_of n [] = []
+rest_of n (s ∷ ss) = segment_rest n s ∷ ss
+
+-- the first n items are these whole segments and so many items of the next one
+pub record IsPlace (segments : List Segment) (n count left : ℕ) : Type 0 where
+  pub front : List Segment
+  pub back : List Segment
+  pub parts : segments ≡ front ++ back
+  pub size : length front ≡ count
+  pub items : length (segment_items front) + left ≡ n
+  pub inside : 0 < left → left < first_left back
+
+-- the first n items are segments of their own, and nothing of the rest is staged
+pub record IsPart (segments front rest : List Segment) (n : ℕ) : Type 0 where
+  pub items : segment_items front ≡ take n (segment_items segments)
+  pub left : segment_items rest ≡ drop n (segment_items segments)
+  pub held : AllHeld front
+  pub first : FirstStaged front
+  pub still : AllHeld rest
+  pub none : NoneStaged rest

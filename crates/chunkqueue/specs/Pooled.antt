@@ -1,5 +1,5 @@
 -- The chunks of a pooled queue as segments, and how they are kept.
-use Rattle.std.specs.Prelude.{◌≡◌, ℕ, ◌+◌, ◌-◌, ◌*◌, ◌/◌, ◌^◌, ◌==◌, ◌≤◌, ◌<◌, List, [], ◌∷◌, ◌++◌, length, map, min, if◌then◌else◌}
+use Rattle.std.specs.Prelude.{◌≡◌, ℕ, ◌+◌, ◌-◌, ◌*◌, ◌/◌, ◌^◌, ◌==◌, ◌≤◌, ◌<◌, List, [], ◌∷◌, ◌++◌, length, map, min, take, drop, if◌then◌else◌}
 use Rattle.buffer_pool.specs.State.{ChunkState, PoolState, IsWithin}
 use Rattle.buffer_pool.specs.Edits.{first_of, dropped}
 use Rattle.buffer_pool.specs.Kept.{numbers}
@@ -148,3 +148,11 @@ pub record CanFollow (chunks : List ChunkState) : Type 0 where
   pub none : NoneStaged (segments_of chunks)
   pub sound : AllSound chunks
   pub paired : BehindPaired chunks
+
+-- the first n items stand in a list of their own, and nothing is staged
+pub record IsCut (chunks front rest : List ChunkState) (n : ℕ) : Type 0 where
+  pub kept : AreKept front
+  pub follows : CanFollow rest
+  pub items : items_of_chunks front ≡ take n (items_of_chunks chunks)
+  pub left : items_of_chunks rest ≡ drop n (items_of_chunks chunks)
+  pub staged : staged_of_chunks front ≡ []

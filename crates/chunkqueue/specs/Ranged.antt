@@ -13,6 +13,13 @@ pub record Ranged : Type 0 where
 abbrev pub without_front : ℕ → Ranged → Ranged
 without_front n r = record { file = r.file; start = r.start + n; len = r.len - n; staged = drop n r.staged }
 
+-- its first n bytes, and the rest of it: nothing of them is staged
+abbrev pub front_of_range : ℕ → Ranged → Ranged
+front_of_range n r = record { file = r.file; start = r.start; len = n; staged = [] }
+
+abbrev pub rest_of_range : ℕ → Ranged → Ranged
+rest_of_range n r = record { file = r.file; start = r.start + n; len = r.len - n; staged = [] }
+
 abbrev pub unstaged : Ranged → Ranged
 unstaged r = record { file = r.file; start = r.start; len = r.len; staged = [] }
 

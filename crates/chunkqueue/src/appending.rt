@@ -9,7 +9,7 @@ use buffer_pool::{BUFFER_SIZE, ChunkList, Pool};
 use lt_bytes::NoMemory;
 
 /// Puts bytes of at most one buffer behind the others, into the last chunk or a spare one.
-fn append_piece(chunks: &mut ChunkList, pool: &mut Pool, piece: &[u8])
+pub(crate) fn append_piece(chunks: &mut ChunkList, pool: &mut Pool, piece: &[u8])
     requires kept { AreKept chunks.old }
     requires some { 0 < length piece.now }
     requires most { length piece.now ≤ BUFFER_SIZE }
@@ -91,6 +91,7 @@ pub(crate) fn append_range(
     requires ends { start + len < 2 ^ 63 }
     requires countable { length chunks.old + 1 < 2 ^ 64 }
     ensures gains { OnOk result (Gains chunks.old chunks.new (range file start len)) }
+    ensures length { length chunks.new ≤ length chunks.old + 1 }
     ensures err { OnErr result (chunks.new ≡ chunks.old) }
     ensures spare { 0 < length pool.old.free → IsOk result }
     ensures filled { pool.new.filled ≡ pool.old.filled }

@@ -1,5 +1,5 @@
 //! The same commands on both queues.
-ghost use Rattle.std.specs.Prelude.{length};
+ghost use Rattle.std.specs.Prelude.{◌+◌, ◌≤◌, length};
 ghost use Rattle.buffer_pool.specs.Kept.{HeldWithin};
 
 use crate::tests::{Letters, OWNER, sound_files};
@@ -20,6 +20,69 @@ fn both_queues_let_the_same_bytes_go(rt: HostRuntime) {
     pool.close();
     assert!(&rt; plain.0 == pooled.0 && plain.1 == pooled.1);
     assert!(&rt; plain.0 != 0 && plain.1 != 0);
+}
+
+#[test]
+fn the_first_items_go_behind_another_queue(rt: HostRuntime) {
+    let mut store = PlainStore::new(rt.alloc());
+    parted_everywhere::<PlainQueue>(&rt, &mut store);
+    store.close();
+    let mut pool = Pool::new(rt.alloc());
+    parted_everywhere::<ChunkQueue>(&rt, &mut pool);
+    pool.close();
+}
+
+const ITEMS: [u8; 12] = [
+    b'A', b'B', b'C', b'D', b'c', b'd', b'e', b'f', b'W', b'X', b'Y', b'Z',
+];
+
+// Nothing, a part of the bytes in memory, all of them, a part of the range behind them, and everything.
+fn parted_everywhere<Q: Queue>(rt: &impl Abort, store: &mut Q::Owner)
+    requires { HeldWithin (Q.stored store.old) 0 }
+    ensures { HeldWithin (Q.stored store.new) 0 }
+{
+    both_parts::<Q>(rt, store, 0);
+    both_parts::<Q>(rt, store, 2);
+    both_parts::<Q>(rt, store, 4);
+    both_parts::<Q>(rt, store, 6);
+    both_parts::<Q>(rt, store, 12);
+}
+
+fn both_parts<Q: Queue>(rt: &impl Abort, store: &mut Q::Owner, n: usize)
+    requires counted { HeldWithin (Q.stored store.old) 0 }
+    requires within { n ≤ 12 }
+    ensures { HeldWithin (Q.stored store.new) 0 }
+{
+    let mut files = sound_files();
+    let (mut queue, rest) = parted::<Q>(rt, store, n as u64);
+    rest.close(store);
+    let moved = taken(rt, &mut queue, store, &mut files, 1 + n as u64, 0);
+    assert!(rt; moved == summed(summed(0, b"x"), &ITEMS[..n]) && queue.len() == 0);
+    queue.close(store);
+    let (queue, mut rest) = parted::<Q>(rt, store, n as u64);
+    queue.close(store);
+    let left = taken(rt, &mut rest, store, &mut files, 12 - n as u64, 0);
+    assert!(rt; left == summed(0, &ITEMS[n..]) && rest.len() == 0);
+    rest.close(store);
+}
+
+fn parted<Q: Queue>(rt: &impl Abort, store: &mut Q::Owner, n: u64) -> (Q, Q)
+    requires { HeldWithin (Q.stored store.old) 0 }
+    ensures { HeldWithin (Q.stored store.new) (length (Q.contents result.0).numbers + length (Q.contents result.1).numbers) }
+{
+    let mut queue = Q::new();
+    let pushed = queue.push_bytes(store, b"x");
+    assert!(rt; pushed.is_ok() && queue.len() == 1);
+    let mut from = Q::new();
+    let first = from.push_bytes(store, b"ABCD");
+    assert!(rt; first.is_ok() && from.len() == 4);
+    let second = from.push_file(store, FileId(0), 2, 4);
+    assert!(rt; second.is_ok() && from.len() == 8);
+    let third = from.push_bytes(store, b"WXYZ");
+    assert!(rt; third.is_ok() && from.len() == 12 && n <= 12);
+    let stolen = queue.steal(store, &mut from, n);
+    assert!(rt; stolen.is_ok());
+    (queue, from)
 }
 
 // A sum over the bytes that left in 10,000 commands, in order, and how many items are still there.

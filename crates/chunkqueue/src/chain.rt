@@ -1,9 +1,10 @@
 //! Segments one after another.
-ghost use Rattle.std.specs.Prelude.{◌≡◌, ◌+◌, ◌-◌, ◌^◌, ◌<◌, ◌≤◌, [], ◌∷◌, ◌++◌, drop, take, length, min, Some, IsOk, OnOk, OnErr, MatchOption};
+ghost use Rattle.std.specs.Prelude.{◌≡◌, ◌+◌, ◌-◌, ◌^◌, ◌<◌, ◌≤◌, [], ◌∷◌, ◌++◌, drop, take, length, min, Some, IsOk, IfOk, OnOk, OnErr, MatchOption};
 ghost use Rattle.lt_world.specs.Causes.{Rose};
-ghost use Rattle.chunkqueue.specs.Plain.{memory_before, first_staged, first_staging, front_of_segments, segments_after, segments_joined, segments_unstaged, AllHeld, FirstLies, staged_by};
+ghost use Rattle.chunkqueue.specs.Plain.{memory_before, first_staged, first_staging, front_of_segments, segments_after, segments_joined, segments_unstaged, segment_items, AllHeld, FirstStaged, FirstLies, IsPart, staged_by};
 
 use crate::segment::Segment;
+use crate::stealing::split;
 use buffer_pool::BUFFER_SIZE;
 use lt_bytes::NoMemory;
 use lt_world::{Fault, Files, Owner};
@@ -126,6 +127,47 @@ impl Chain {
             Some(list) => link(list, more),
             None => self.segments = from.segments.take(),
         }
+    }
+
+    /// Takes the first `n` items off, as a chain of their own. Without memory nothing is taken.
+    pub(crate) fn take_front(&mut self, alloc: Global, n: u64) -> Result<Chain, NoMemory>
+        requires held { AllHeld self.old }
+        requires first { FirstStaged self.old }
+        requires countable { length self.old < 2 ^ 63 }
+        requires some { 0 < n }
+        requires within { n ≤ length (segment_items self.old) }
+        ensures ok { IfOk result (λ front. IsPart self.old front self.new n) }
+        ensures err { OnErr result (self.new ≡ self.old) }
+        ensures whole { n ≡ length (segment_items self.old) → IsOk result }
+    {
+        let Some(list) = &mut self.segments else {
+            unreachable!();
+        };
+        match split(list, alloc, n) {
+            Ok(front) => Ok(Chain {
+                segments: Some(front),
+            }),
+            Err(error) => Err(error),
+        }
+    }
+
+    /// Forgets what is staged.
+    pub(crate) fn unstage(&mut self)
+        ensures { self.new ≡ segments_unstaged self.old }
+    {
+        if let Some(list) = &mut self.segments {
+            unstage_first(list);
+        }
+    }
+
+    /// Links the segments of another chain behind these. None of them is staged then.
+    pub(crate) fn extend(&mut self, from: Chain)
+        requires { length self.old + length from < 2 ^ 63 }
+        ensures { self.new ≡ segments_joined self.old (segments_unstaged from) }
+    {
+        let mut more = from;
+        more.unstage();
+        self.append(&mut more);
     }
 
     /// Copies the bytes in memory that stand before any range, and answers how many.

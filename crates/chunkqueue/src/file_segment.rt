@@ -2,7 +2,7 @@
 ghost use Rattle.std.specs.Prelude.{◌≡◌, ◌+◌, ◌^◌, ◌≤◌, ◌<◌, ◌==◌, [], length, min, take, Some, IfOk, OnOk, OnErr, IsTrue, ◌↔◌};
 ghost use Rattle.lt_world.specs.Causes.{Rose};
 ghost use Rattle.lt_world.specs.Disk.{HasRange, range_of};
-ghost use Rattle.chunkqueue.specs.Ranged.{without_front, unstaged};
+ghost use Rattle.chunkqueue.specs.Ranged.{without_front, front_of_range, rest_of_range, unstaged};
 
 use buffer_pool::BUFFER_SIZE;
 use lt_bytes::NoMemory;
@@ -58,6 +58,21 @@ impl FileSegment {
         }
     }
 
+    /// How many bytes are left.
+    pub(crate) fn len(&self) -> u64
+        ensures { result ≡ self.now.len }
+    {
+        self.len
+    }
+
+    /// The first `n` bytes as a range of which nothing is staged.
+    pub(crate) fn copy_front(&self, alloc: Global, n: u64) -> Result<FileSegment, NoMemory>
+        requires { n ≤ self.now.len }
+        ensures { IfOk result (λ front. front ≡ front_of_range n self.now) }
+    {
+        FileSegment::new(alloc, self.file, self.start, n)
+    }
+
     pub(crate) fn staged(&self) -> &[u8]
         ensures bytes { result.now ≡ self.now.staged }
         ensures most { length result.now ≤ BUFFER_SIZE }
@@ -109,6 +124,17 @@ impl FileSegment {
         self.start += n as u64;
         self.len -= n as u64;
         self.read += n;
+    }
+
+    /// Takes off the first `n` bytes, and forgets what is staged.
+    pub(crate) fn skip(&mut self, n: u64)
+        requires { n ≤ self.old.len }
+        ensures { self.new ≡ rest_of_range n self.old }
+    {
+        self.start += n;
+        self.len -= n;
+        self.read = 0;
+        self.filled = 0;
     }
 
     /// Forgets what is staged.

@@ -32,7 +32,7 @@ pub(crate) fn append_chunks(chunks: &mut ChunkList, pool: &mut Pool, from: &mut 
 }
 
 // Forgets what is staged of a range that stands first.
-fn unstage(chunks: &mut ChunkList)
+pub(crate) fn unstage(chunks: &mut ChunkList)
     requires kept { AreKept chunks.old }
     ensures follows { CanFollow chunks.new }
     ensures items { items_of_chunks chunks.new ≡ items_of_chunks chunks.old }

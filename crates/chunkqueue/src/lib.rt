@@ -18,6 +18,8 @@ mod pooled;
 mod queue;
 mod reading;
 mod segment;
+mod splitting;
+mod stealing;
 mod store;
 
 pub use buffer_pool::BUFFER_SIZE;

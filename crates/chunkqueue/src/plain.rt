@@ -92,6 +92,26 @@ impl Queue for PlainQueue {
         from.len = 0;
     }
 
+    fn steal(
+        &mut self,
+        store: &mut PlainStore,
+        from: &mut PlainQueue,
+        n: u64,
+    ) -> Result<(), NoMemory> {
+        if n == 0 {
+            return Ok(());
+        }
+        match from.chain.take_front(store.alloc(), n) {
+            Ok(front) => {
+                self.chain.extend(front);
+                self.len += n;
+                from.len -= n;
+                Ok(())
+            }
+            Err(error) => Err(error),
+        }
+    }
+
     fn front_bytes(&self) -> &[u8] {
         self.chain.front_bytes()
     }

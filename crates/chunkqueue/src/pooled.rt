@@ -8,6 +8,7 @@ use crate::joining::append_chunks;
 use crate::looking::{front_of, peek_into};
 use crate::queue::Queue;
 use crate::reading::stage_front;
+use crate::splitting::steal_chunks;
 use buffer_pool::{ChunkList, Pool};
 use lt_bytes::NoMemory;
 use lt_world::{Fault, FileId, Files, Owner};
@@ -92,6 +93,21 @@ impl Queue for ChunkQueue {
         append_chunks(&mut self.chunks, store, &mut from.chunks);
         self.len += from.len;
         from.len = 0;
+    }
+
+    fn steal(&mut self, store: &mut Pool, from: &mut ChunkQueue, n: u64) -> Result<(), NoMemory> {
+        if n == 0 {
+            return Ok(());
+        }
+        match store.reserve((from.len - n).min(1)) {
+            Ok(()) => {
+                steal_chunks(&mut self.chunks, store, &mut from.chunks, n);
+                self.len += n;
+                from.len -= n;
+                Ok(())
+            }
+            Err(error) => Err(error),
+        }
     }
 
     fn front_bytes(&self) -> &[u8] {

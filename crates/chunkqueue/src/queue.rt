@@ -7,7 +7,7 @@ use lt_world::{Fault, FileId, Files, Owner};
 /// A list of items, each a byte in memory or the byte at a position of an opened file. The first
 /// item leaves first. A queue must be closed: it can't be dropped.
 pub trait Queue {
-    ghost use Rattle.std.specs.Prelude.{◌≡◌, ℕ, ◌+◌, ◌*◌, ◌^◌, ◌≤◌, ◌<◌, ◌++◌, List, [], map, min, length, take, drop, Some, OnOk, OnErr, IsOk};
+    ghost use Rattle.std.specs.Prelude.{◌≡◌, ℕ, ◌+◌, ◌-◌, ◌*◌, ◌^◌, ◌≤◌, ◌<◌, ◌++◌, List, [], map, min, length, take, drop, Some, OnOk, OnErr, IsOk};
     ghost use Rattle.lt_world.specs.Causes.{Rose};
     ghost use Rattle.chunkqueue.specs.Items.{Byte, Contents, empty, range, items_of, count_of, staged_of, front_of, staging_of, memory_front, Leads, staged_behind, AllLie, Shows};
     ghost use Rattle.buffer_pool.specs.State.{PoolState};
@@ -66,6 +66,23 @@ pub trait Queue {
         ensures filled { (stored store.new).filled ≤ (stored store.old).filled + 2 * MERGE_SIZE }
         ensures kept { Kept (stored store.old) ((contents self.old).numbers ++ (contents from.old).numbers)
             (stored store.new) (contents self.new).numbers };
+
+    /// Moves the first `n` items of `from` to the end of this queue. Only where a chunk is split a buffer is needed, and it is
+    /// taken before anything moves. What `from` had staged is read anew.
+    fn steal(&mut self, store: &mut Self::Owner, from: &mut Self, n: u64) -> Result<(), NoMemory>
+        requires counted { HeldWithin (stored store.old) (length (contents self.old).numbers + length (contents from.old).numbers) }
+        requires fits { count_of (contents self.old) + n < 2 ^ 63 }
+        requires within { n ≤ count_of (contents from.old) }
+        ensures items { OnOk result (items_of (contents self.new) ≡ items_of (contents self.old) ++ take n (items_of (contents from.old))) }
+        ensures from { OnOk result (items_of (contents from.new) ≡ drop n (items_of (contents from.old))) }
+        ensures err { OnErr result ((contents self.new ≡ contents self.old) × (contents from.new ≡ contents from.old)) }
+        ensures none { n ≡ 0 → (contents self.new ≡ contents self.old) × (contents from.new ≡ contents from.old) }
+        ensures staged { staged_of (contents self.new) ≡ staged_of (contents self.old) }
+        ensures rest { OnOk result (0 < n → staged_of (contents from.new) ≡ []) }
+        ensures spare { min (min n (count_of (contents from.old) - n)) 1 ≤ length (stored store.old).free → IsOk result }
+        ensures filled { (stored store.new).filled ≤ (stored store.old).filled + BUFFER_SIZE + 2 * MERGE_SIZE }
+        ensures kept { Kept (stored store.old) ((contents self.old).numbers ++ (contents from.old).numbers)
+            (stored store.new) ((contents self.new).numbers ++ (contents from.new).numbers) };
 
     /// The bytes that can leave now, at most `BUFFER_SIZE` of them: none where the queue is empty, or
     /// where a range stands first that isn't staged.

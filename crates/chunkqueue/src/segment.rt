@@ -1,12 +1,14 @@
 //! One segment of a plain queue.
-ghost use Rattle.std.specs.Prelude.{◌≡◌, ◌<◌, ◌≤◌, length, take, Some, IsTrue, IsOk, OnOk, OnErr, ◌↔◌};
+ghost use Rattle.std.specs.Prelude.{◌≡◌, ◌<◌, ◌≤◌, length, take, Some, IsTrue, IsOk, IfOk, OnOk, OnErr, ◌↔◌};
 ghost use Rattle.lt_world.specs.Causes.{Rose};
-ghost use Rattle.chunkqueue.specs.Plain.{front_of_segment, segment_after, segment_unstaged, segment_left, segment_staged, segment_staging, segment_reads, IsHeld, SegmentLies};
+ghost use Rattle.chunkqueue.specs.Plain.{front_of_segment, segment_after, segment_unstaged, segment_left, segment_front, segment_rest, segment_staged, segment_staging, segment_reads, IsHeld, SegmentLies};
 
 use crate::file_segment::FileSegment;
 use crate::memory_segment::MemorySegment;
 use buffer_pool::BUFFER_SIZE;
+use lt_bytes::NoMemory;
 use lt_world::{Fault, Files, Owner};
+use std::alloc::Global;
 
 /// Bytes in memory, or a range of an opened file.
 #[derive(Drop)]
@@ -72,6 +74,46 @@ impl Segment {
                 }
                 file.stage(files, owner)
             }
+        }
+    }
+
+    /// How many items are left.
+    pub(crate) fn len(&self) -> u64
+        ensures { result ≡ segment_left self.now }
+    {
+        match self {
+            Segment::Memory(memory) => memory.bytes().len() as u64,
+            Segment::File(file) => file.len(),
+        }
+    }
+
+    /// The first `n` items in a segment of their own.
+    pub(crate) fn copy_front(&self, alloc: Global, n: u64) -> Result<Segment, NoMemory>
+        requires { n ≤ segment_left self.now }
+        ensures { IfOk result (λ s. s ≡ segment_front n self.now) }
+    {
+        match self {
+            Segment::Memory(memory) => {
+                match MemorySegment::copy_of(alloc, &memory.bytes()[..n as usize]) {
+                    Ok(front) => Ok(Segment::Memory(front)),
+                    Err(error) => Err(error),
+                }
+            }
+            Segment::File(file) => match file.copy_front(alloc, n) {
+                Ok(front) => Ok(Segment::File(front)),
+                Err(error) => Err(error),
+            },
+        }
+    }
+
+    /// Takes off the first `n` items, and forgets what is staged.
+    pub(crate) fn skip(&mut self, n: u64)
+        requires { n ≤ segment_left self.old }
+        ensures { self.new ≡ segment_rest n self.old }
+    {
+        match self {
+            Segment::Memory(memory) => memory.drop_front(n as usize),
+            Segment::File(file) => file.skip(n),
         }
     }
 
