@@ -1,5 +1,5 @@
 -- What a run over a script means for the script.
-use Rattle.std.proofs.Common.{◌≡◌, ℕ, ◌+◌, List, [], ◌∷◌, refl, sym, ap, ◌∙◌, arith}
+use Rattle.std.proofs.Common.{◌≡◌, ℕ, List, [], sym, ap, ◌∙◌}
 use Rattle.std.specs.Prelude.{Option}
 use Rattle.lt_world.specs.declared.net.NextKind.{NextKind}
 use Rattle.lighttpd.specs.declared.status.Status.{Status}

@@ -1,15 +1,17 @@
 -- A run, turn by turn.
-use Rattle.std.proofs.Common.{◌≡◌, ℕ, List, [], ◌∷◌, arith, refl, sym, subst, ◌∙◌}
+use Rattle.std.proofs.Common.{◌≡◌, ℕ, List, [], ◌∷◌, arith, ap, refl, sym, subst, ◌∙◌, inl, inr}
 use Rattle.std.specs.Prelude.{Option, Some, None}
 use Rattle.lt_world.specs.declared.files.Call.{Call}
 use Rattle.lt_world.specs.Disk.{Disk, Tree, own_calls}
 use Rattle.lt_world.specs.Trace.{Entry}
 use Rattle.server_model.specs.Plan.{world_of}
-use Rattle.server_model.specs.Deeds.{own}
-use Rattle.server_model.specs.Client.{stream, IsServedRight}
+use Rattle.server_model.specs.Deeds.{own, ours}
+use Rattle.server_model.specs.Client.{ending_of, stream, IsServedRight}
 use Rattle.server_model.specs.Held.{Held, Serving, kept_at}
 use Rattle.server_model.specs.Serves.{Serves}
 use Rattle.server_model.proofs.Settled.{stands_right}
+use Rattle.server_model.proofs.Faults.{run_faults}
+use Rattle.lt_world.specs.Causes.{Rose}
 use Rattle.server_core.specs.Table.{freed, all_freed}
 use Rattle.lighttpd.specs.Runs.{ServesRight, RunsDue, Served, told_as}
 use Rattle.lt_world.specs.declared.net.Owner.{Owner}
@@ -73,7 +75,7 @@ undue root tree = record {
 -- the same of a run that was not begun
 pub unserved : (root : List ℕ) (tree : Tree) (calls : List Call) (trace : List Entry) → calls ≡ [] → trace ≡ [] → Served root tree calls trace
 unserved root tree calls trace uncalled untold =
-    let none_called : Served root tree [] [] = record { right = unserved_right root tree; due = undue root tree } in
+    let none_called : Served root tree [] [] = record { right = unserved_right root tree; due = undue root tree; unfaulted = λ link is. absurd (cc (is)) } in
     subst (λ (c : List Call). Served root tree c trace) (sym uncalled) (subst (λ (t : List Entry). Served root tree [] t) (sym untold) none_called)
 
 -- the same root and tree under other names
@@ -81,11 +83,14 @@ pub served_as : (root other : List ℕ) (tree wood : Tree) (calls : List Call) (
 served_as root other tree wood calls trace served root_is tree_is =
     subst (λ (t : Tree). Served other t calls trace) tree_is (subst (λ (r : List ℕ). Served r tree calls trace) root_is served)
 
+unrisen : (before now : ℕ) → before ≡ 0 → now ≡ 0 → Rose before now → ⊥
+unrisen before now first last rose = grind (arith, first, last, rose)
+
 -- a run after which the server serves, over a tree that stays
 pub serves_all : (disk start : Disk) (server : Serving) (root : List ℕ) (tree : Tree) (calls : List Call) (faults now_faults : ℕ) (failed now_failed : Option Owner) (old trace : List Entry)
-    → old ≡ [] → now_faults ≡ faults → start.tree ≡ tree → start.calls ≡ [] → Serves disk server trace → server.root ≡ root → disk.tree ≡ tree → disk.calls ≡ calls
+    → old ≡ [] → faults ≡ 0 → now_faults ≡ faults → start.tree ≡ tree → start.calls ≡ [] → Serves disk server trace → server.root ≡ root → disk.tree ≡ tree → disk.calls ≡ calls
     → IsRun root (told_as start faults failed old) (told_as disk now_faults now_failed trace) → Served root tree calls trace
-serves_all disk start server root tree calls faults now_faults failed now_failed old trace untold calm start_tree uncalled serves root_is tree_is calls_are run = record {
+serves_all disk start server root tree calls faults now_faults failed now_failed old trace untold unfailed calm start_tree uncalled serves root_is tree_is calls_are run = record {
   right = serves_right disk server trace root tree calls serves root_is tree_is calls_are;
   due = record {
     first = told_as start faults failed old;
@@ -98,4 +103,8 @@ serves_all disk start server root tree calls faults now_faults failed now_failed
     calls_are = calls_are;
     calm = calm;
   };
+  unfaulted = λ link is. elim (run_faults root (told_as start faults failed old) (told_as disk now_faults now_failed trace) run link is) [
+    | inl was ↦ absurd (cc (ap (λ (t : List Entry). ending_of (ours (own link t))) untold, was))
+    | inr rose ↦ absurd (unrisen faults now_faults unfailed (calm ∙ unfailed) rose)
+  ];
 }

@@ -1,13 +1,14 @@
 -- How a run finishes, and what it means for each client.
-use Rattle.std.specs.Prelude.{◌≡◌, ℕ, List, [], Option}
+use Rattle.std.specs.Prelude.{◌≡◌, ℕ, List, [], Option, Some}
 use Rattle.lt_world.specs.declared.net.NextKind.{NextKind}
 use Rattle.lt_world.specs.declared.net.NextKind.TheVariants as kind
+use Rattle.lt_world.specs.declared.net.Ending.TheVariants as ending
 use Rattle.lt_world.specs.declared.net.Owner.{Owner}
 use Rattle.lt_world.specs.declared.files.Call.{Call}
 use Rattle.lt_world.specs.Disk.{Disk, Tree, own_calls}
 use Rattle.lt_world.specs.Trace.{Entry}
-use Rattle.server_model.specs.Client.{IsServedRight}
-use Rattle.server_model.specs.Deeds.{own}
+use Rattle.server_model.specs.Client.{ending_of, IsServedRight}
+use Rattle.server_model.specs.Deeds.{own, ours}
 use Rattle.server_model.specs.Runs.{Told, IsRun}
 use Rattle.lighttpd.specs.declared.run.Finish.{Finish}
 use Rattle.lighttpd.specs.declared.run.Finish.TheVariants as finish
@@ -36,10 +37,11 @@ pub record RunsDue (root : List ℕ) (tree : Tree) (calls : List Call) (trace : 
   pub run : IsRun root first final
   pub trace_is : final.trace ≡ trace
   pub calls_are : final.seen.disk.calls ≡ calls
-  -- no call on the files failed, so no client was closed for a file's fault
+  -- no call on the files failed
   pub calm : final.seen.faults ≡ first.seen.faults
 
--- what a run from a fresh server over a fresh net keeps for its clients
+-- what a run from a fresh server over a fresh net keeps for its clients; none is closed for a file's fault
 pub record Served (root : List ℕ) (tree : Tree) (calls : List Call) (trace : List Entry) : Type 0 where
   pub right : ServesRight root tree calls trace
   pub due : RunsDue root tree calls trace
+  pub unfaulted : (link : ℕ) → ending_of (ours (own link trace)) ≡ Some ending.FileFault → ⊥
