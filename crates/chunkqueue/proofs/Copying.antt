@@ -94,8 +94,5 @@ before-file segments rest s r is file = rw (is, file) refl
 pub before-memory : (segments rest : List Segment) (s : Segment) (memory bytes : List ℕ) → segments ≡ s ∷ rest → s ≡ Memory memory → bytes ≡ memory → memory_before segments ≡ bytes ++ memory_before rest
 before-memory segments rest s memory bytes is memory_is same = rw (is, memory_is, same) refl
 
-pub nothing-before : (segments : List Segment) → segments ≡ [] → memory_before segments ≡ []
-nothing-before segments is = rw is refl
-
 pub still_copies : (all left more : List ℕ) (count : ℕ) (buf first : List ℕ) → Copies all left count buf first → left ≡ more → Copies all more count buf first
 still_copies all left more count buf first had same = rw (← same) had

@@ -1,15 +1,15 @@
 -- Segments that are parted after their first items.
 use Rattle.std.proofs.Common.{◌≡◌, ℕ, ◌+◌, ◌-◌, ◌^◌, ◌≤◌, ◌<◌, List, [], ◌∷◌, ◌++◌, length, take, drop, arith, ap, sym, ◌∙◌, refl, append_assoc}
 use Rattle.std.proofs.Math.Seq.{take-append_seam, drop-append_seam, take-append-add, drop-append-add}
-use Rattle.std.proofs.lemmas.List.{length-take, length-drop, length-append, append-nil, take-append-le, drop-append-le, take-append-drop, take-map, drop-map}
+use Rattle.std.proofs.lemmas.List.{length-take, length-drop, length-append, append-nil, take-append-le, drop-append-le, take-map, drop-map}
 use Rattle.std.specs.Prelude.{Result, Ok, Err, IfOk}
-use Rattle.chunkqueue.specs.Items.{Item, Byte, Contents, chunk_items, items_of, count_of, staged_of, staged_in, staged_behind}
+use Rattle.chunkqueue.specs.Items.{Item, Byte, Contents, chunk_items, items_of, count_of, staged_in, staged_behind}
 use Rattle.chunkqueue.specs.Plain.{chunk_of, chunks_of, plain, segment_left, segment_front, segment_rest, first_left, part_of, rest_of, segments_unstaged, segments_joined, IsHeld, AllHeld, segment_staged, segment_items, NoneStaged, FirstStaged, IsPlain, IsPlace, IsPart}
 use Rattle.chunkqueue.specs.declared.segment.Segment.{Segment}
 use Rattle.chunkqueue.specs.declared.segment.Segment.TheVariants.{Memory, File}
 use Rattle.chunkqueue.proofs.Calls.{counted}
 use Rattle.chunkqueue.proofs.Ranges.{take-range, drop-range}
-use Rattle.chunkqueue.proofs.Segments.{some_left, length-chunk_items, segment_items-append, segment_items-push, AllHeld-append, FirstStaged-push, NoneStaged-first, AllHeld-unstaged, NoneStaged-unstaged, NoneStaged-staged, segment_items-unstaged, segment_items-joined, staged_in-joined, joined_plain, segments-within}
+use Rattle.chunkqueue.proofs.Segments.{some_left, length-chunk_items, segment_items-append, segment_items-push, AllHeld-append, FirstStaged-push, NoneStaged-first, AllHeld-unstaged, NoneStaged-unstaged, NoneStaged-staged, segment_items-unstaged, segment_items-joined, joined_plain, segments-within}
 
 -- items after those of a
 pub take-parts : (a b : List Item) (n k : ℕ) → length a + k ≡ n → take n (a ++ b) ≡ a ++ take k b
@@ -27,9 +27,6 @@ pub record Placing (segments left : List Segment) (n count rest : ℕ) : Type 0 
   pub fits : count + rest ≤ n
   pub held : AllHeld left
 
-pub placing_starts : (segments left : List Segment) (n : ℕ) → AllHeld segments → left ≡ segments → Placing segments left n 0 n
-placing_starts segments left n held is = rw is (record { front = []; parts = refl; size = refl; items = omega arith; fits = omega arith; held = held })
-
 pub placing_more : (segments left next : List Segment) (s : Segment) (n count rest len : ℕ) → Placing segments left n count rest → left ≡ s ∷ next → len ≡ segment_left s → len ≤ rest → Placing segments next n (count + 1) (rest - len)
 placing_more segments left next s n count rest len had is same fits =
     let held : AllHeld (s ∷ next) = rw is at had.held in
@@ -41,26 +38,6 @@ placing_more segments left next s n count rest len had is same fits =
       fits = omega (arith, had.fits, some_left s held.0);
       held = held.1;
     }
-
-pub placed_inside : (segments left next : List Segment) (s : Segment) (n count rest len : ℕ) → Placing segments left n count rest → left ≡ s ∷ next → len ≡ segment_left s → rest < len → IsPlace segments n count rest
-placed_inside segments left next s n count rest len had is same less = record {
-  front = had.front;
-  back = left;
-  parts = had.parts;
-  size = had.size;
-  items = had.items;
-  inside = λ some. omega (arith, ap first_left is);
-}
-
-pub placed_all : (segments left : List Segment) (n count rest : ℕ) → Placing segments left n count rest → left ≡ [] → n ≤ length (segment_items segments) → IsPlace segments n count rest
-placed_all segments left n count rest had is within = record {
-  front = had.front;
-  back = left;
-  parts = had.parts;
-  size = had.size;
-  items = had.items;
-  inside = λ some. absurd (omega (arith, had.items, ap (λ (l : List Segment). length (segment_items l)) (had.parts ∙ ap (λ (l : List Segment). had.front ++ l) is ∙ append-nil had.front)));
-}
 
 -- the first items of a segment, and the others
 items-front : (k : ℕ) (s : Segment) → k ≤ segment_left s → chunk_items (chunk_of (segment_front k s)) ≡ take k (chunk_items (chunk_of s))
@@ -154,12 +131,6 @@ place_front segments n count left p = rw (← p.size, p.parts) (take-append_seam
 place_back : (segments : List Segment) (n count left : ℕ) → (p : IsPlace segments n count left) → drop count segments ≡ p.back
 place_back segments n count left p = rw (← p.size, p.parts) (drop-append_seam p.front p.back)
 
-pub place_within : (segments : List Segment) (n count left : ℕ) → IsPlace segments n count left → count ≤ length segments
-place_within segments n count left p = omega (arith, p.size, ap length p.parts, length-append p.front p.back)
-
-pub place_inside : (segments others : List Segment) (n count left : ℕ) → IsPlace segments n count left → others ≡ drop count segments → 0 < left → left < first_left others
-place_inside segments others n count left p is some = omega (arith, p.inside some, ap first_left (is ∙ place_back segments n count left p))
-
 pub part_whole : (segments front rest : List Segment) (n count left : ℕ) → IsPlace segments n count left → AllHeld segments → FirstStaged segments → 0 < n → left ≡ 0 → front ≡ take count segments → rest ≡ drop count segments → IsPart segments front rest n
 part_whole segments front rest n count left p held first some none is_front is_rest =
     rw (is_front ∙ place_front segments n count left p, is_rest ∙ place_back segments n count left p, p.parts)
@@ -171,12 +142,6 @@ part_inside segments front others result rest n count left p held first some is_
     let back = is_others ∙ place_back segments n count left p in
     rw (is_result, is_rest, is_front ∙ place_front segments n count left p, back, p.parts)
     (inside p.front p.back n left (rw p.parts at held) (rw p.parts at first) some (p.inside some) p.items)
-
-pub parts_fit : (segments front others : List Segment) (count : ℕ) → front ≡ take count segments → others ≡ drop count segments → length segments < 2 ^ 63 → length front + length others < 2 ^ 63
-parts_fit segments front others count is_front is_others fits = omega (arith, ap length is_front, ap length is_others, ap length (take-append-drop count segments), length-append (take count segments) (drop count segments))
-
-pub parts_again : (segments front others : List Segment) (count : ℕ) → front ≡ take count segments → others ≡ drop count segments → front ++ others ≡ segments
-parts_again segments front others count is_front is_others = rw (is_front, is_others) (take-append-drop count segments)
 
 first_within : (b : List Segment) → first_left b ≤ length (segment_items b)
 first_within [] = omega arith
@@ -200,14 +165,6 @@ taken_plain b front f rest len n had part within is =
       fits = omega (arith, had.fits);
     }
 
-pub left_plain : (b front rest : List Segment) (len n : ℕ) → IsPlain b len → IsPart b front rest n → IsPlain rest (len - n)
-left_plain b front rest len n had part = record {
-  held = part.still;
-  first = NoneStaged-first rest part.none;
-  counts = omega (arith, had.counts, ap length part.left, length-drop n (segment_items b));
-  fits = omega (arith, had.fits);
-}
-
 pub within_plain : (q : Contents) (b : List Segment) (len n : ℕ) → plain b ≡ q → IsPlain b len → n ≤ count_of q → n ≤ len
 within_plain q b len n view had h = omega (arith, counted q b len view had)
 
@@ -223,9 +180,6 @@ stolen_items q more a b front f rest next n view behind part is joined =
     ap segment_items joined ∙ segment_items-joined a f ∙ ap (λ (c : Contents). items_of c ++ segment_items f) view
     ∙ ap (λ (i : List Item). items_of q ++ i) (taken_items b front f rest n part is ∙ ap (λ (c : Contents). take n (items_of c)) behind)
 
-pub left_items : (more : Contents) (b front rest : List Segment) (n : ℕ) → plain b ≡ more → IsPart b front rest n → segment_items rest ≡ drop n (items_of more)
-left_items more b front rest n behind part = part.left ∙ ap (λ (c : Contents). drop n (items_of c)) behind
-
 pub left_staged : (b front rest : List Segment) (n : ℕ) → IsPart b front rest n → staged_in (chunks_of rest) ≡ []
 left_staged b front rest n part = NoneStaged-staged rest part.none
 
@@ -233,12 +187,6 @@ none_behind : (segments : List Segment) (items : List Item) → segment_items se
 none_behind [] items is held = rw (← is) refl
 none_behind (s ∷ ss) [] is held = absurd (omega (arith, ap length is, some_left s held.0, length-chunk_items s, length-append (chunk_items (chunk_of s)) (segment_items ss)))
 none_behind (s ∷ ss) (item ∷ items) is held = refl
-
-pub stolen_staged : (q : Contents) (a front f next : List Segment) (m : ℕ) → plain a ≡ q → IsPlain a m → FirstStaged front → f ≡ segments_unstaged front → next ≡ segments_joined a f → staged_in (chunks_of next) ≡ staged_of q
-stolen_staged q a front f next m view had first is joined =
-    let none : staged_in (chunks_of f) ≡ [] = ap (λ (l : List Segment). staged_in (chunks_of l)) is ∙ NoneStaged-staged (segments_unstaged front) (NoneStaged-unstaged front first) in
-    ap (λ (l : List Segment). staged_in (chunks_of l)) joined ∙ staged_in-joined a f had.held
-    ∙ ap (λ (l : List ℕ). staged_behind (segment_items a) (staged_in (chunks_of a)) l) none ∙ none_behind a (segment_items a) refl had.held ∙ ap staged_of view
 
 pub nothing_behind : (segments : List Segment) → AllHeld segments → staged_behind (segment_items segments) (staged_in (chunks_of segments)) [] ≡ staged_in (chunks_of segments)
 nothing_behind segments held = none_behind segments (segment_items segments) refl held

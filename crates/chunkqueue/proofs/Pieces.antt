@@ -1,14 +1,14 @@
 -- Bytes that are put behind others, piece by piece.
-use Rattle.std.proofs.Common.{◌≡◌, ℕ, ◌+◌, ◌-◌, ◌*◌, ◌^◌, ◌≤◌, ◌<◌, max, List, [], ◌++◌, length, map, take, drop, arith, ap, sym, ◌∙◌, refl, append_assoc}
+use Rattle.std.proofs.Common.{◌≡◌, ℕ, ◌+◌, ◌-◌, ◌*◌, ◌^◌, ◌≤◌, ◌<◌, max, List, ◌++◌, length, map, take, drop, arith, ap, sym, ◌∙◌, append_assoc}
 use Rattle.std.proofs.lemmas.List.{length-take, length-drop, take-append-drop}
 use Rattle.buffer_pool.specs.State.{ChunkState, PoolState}
 use Rattle.buffer_pool.specs.Kept.{numbers, Kept}
 use Rattle.buffer_pool.specs.declared.buffer.TheConstants.{BUFFER_SIZE}
 use Rattle.buffer_pool.proofs.Keeping.{kept_both}
 use Rattle.chunkqueue.specs.Items.{Byte}
-use Rattle.chunkqueue.specs.Pooled.{AreKept, Gains}
+use Rattle.chunkqueue.specs.Pooled.{Gains}
 use Rattle.chunkqueue.specs.declared.merging.TheConstants.{MERGE_SIZE}
-use Rattle.chunkqueue.proofs.Pooling.{map-joined, gains_nothing, gains_both}
+use Rattle.chunkqueue.proofs.Pooling.{map-joined, gains_both}
 
 -- so far the front of the bytes stands behind the chunks
 pub record Appending (chunks : List ChunkState) (pool : PoolState) (bytes : List ℕ) (now : List ChunkState) (left : PoolState) (rest : List ℕ) : Type 0 where
@@ -20,26 +20,6 @@ pub record Appending (chunks : List ChunkState) (pool : PoolState) (bytes : List
   pub some : 0 < length rest
   pub countable : length now + length rest < 2 ^ 64
   pub filled : left.filled + length rest ≤ pool.filled + length bytes
-
--- nothing happens
-kept_same : (p : PoolState) (l : List ℕ) → Kept p l p l
-kept_same p l = record { rises = omega arith; counts = λ n. grind arith; total = omega arith }
-
-pub appending_starts : (l : List ChunkState) (p : PoolState) (bytes : List ℕ) → AreKept l → 0 < length bytes → length bytes ≤ BUFFER_SIZE * length p.free → length l + length bytes < 2 ^ 64 → Appending l p bytes l p bytes
-appending_starts l p bytes had some spare countable = record {
-  front = [];
-  parts = refl;
-  gains = gains_nothing l had;
-  kept = kept_same p (numbers l);
-  spare = spare;
-  some = some;
-  countable = countable;
-  filled = omega arith;
-}
-
--- the rest needs a spare node
-pub appending_spare : (l : List ChunkState) (p : PoolState) (bytes : List ℕ) (m : List ChunkState) (q : PoolState) (rest : List ℕ) → Appending l p bytes m q rest → 0 < length q.free
-appending_spare l p bytes m q rest had = omega (arith, had.spare, had.some)
 
 both : (l m n : List ChunkState) (a b : List ℕ) → Gains l m (map Byte a) → Gains m n (map Byte b) → Gains l n (map Byte (a ++ b))
 both l m n a b one two = rw (map-joined a b) (gains_both l m n (map Byte a) (map Byte b) one two)
@@ -62,12 +42,3 @@ appending_more l p bytes m n q r rest piece more had long is others one count sp
       countable = omega (arith, had.countable, left, count, long);
       filled = omega (arith, had.filled, left, filled, size, long);
     }
-
--- and the last one
-pub appended_all : (l : List ChunkState) (p : PoolState) (bytes : List ℕ) (m n : List ChunkState) (q r : PoolState) (rest : List ℕ) → Appending l p bytes m q rest
-    → Gains m n (map Byte rest) → Gains l n (map Byte bytes)
-appended_all l p bytes m n q r rest had one = rw had.parts (both l m n had.front rest had.gains one)
-
-pub appended_kept : (l : List ChunkState) (p : PoolState) (bytes : List ℕ) (m n : List ChunkState) (q r : PoolState) (rest : List ℕ) → Appending l p bytes m q rest
-    → Kept q (numbers m) r (numbers n) → Kept p (numbers l) r (numbers n)
-appended_kept l p bytes m n q r rest had kept = kept_both p q r (numbers l) (numbers m) (numbers n) had.kept kept

@@ -227,10 +227,7 @@ range_gains l n file start len had some ends =
     push_gains l (as_file (blank n) file start len) (range file start len) had
     (record { within = omega arith; roomy = λ none. refl; ends = ends }) (some, omega arith) refl refl (λ more. omega (arith, last_weight l more had.held))
 
--- nothing more, and more after more
-pub gains_nothing : (l : List ChunkState) → AreKept l → Gains l l []
-gains_nothing l had = record { kept = had; items = sym (append-nil (items_of_chunks l)); staged = refl }
-
+-- more after more
 pub gains_both : (l m n : List ChunkState) (a b : List Item) → Gains l m a → Gains m n b → Gains l n (a ++ b)
 gains_both l m n a b one two = record {
   kept = two.kept;

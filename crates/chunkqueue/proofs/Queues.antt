@@ -103,6 +103,9 @@ dense [] had = omega arith
 dense (c ∷ cs) had = dense_from (length (c ∷ cs)) (memory_of (c ∷ cs)) (ranges_of (c ∷ cs)) (omega (arith, few cs had.paired, memory_from c.kind c.bytes cs))
 
 -- few nodes hold many bytes
-pub pooled_dense : (q : Contents) (l : List ChunkState) (len : ℕ) → pooled l ≡ q → IsPooled l len → IsDense q
+pub kept_dense : (l : List ChunkState) → AreKept l → IsDense (pooled l)
 unfolding memory_of ranges_of
-pooled_dense q l len view had = subst IsDense view (omega (arith, dense l had.kept, length_numbers l))
+kept_dense l had = omega (arith, dense l had, length_numbers l)
+
+pub pooled_dense : (q : Contents) (l : List ChunkState) (len : ℕ) → pooled l ≡ q → IsPooled l len → IsDense q
+pooled_dense q l len view had = subst IsDense view (kept_dense l had.kept)

@@ -57,10 +57,6 @@ chunk_items-after : (n : ℕ) (s : Segment) → n ≤ segment_left s → chunk_i
 chunk_items-after n (Memory bytes) h = sym (drop-map Byte n bytes)
 chunk_items-after n (File r) h = sym (drop-range r.file r.start r.len n h)
 
-segment_left-after : (n : ℕ) (s : Segment) → segment_left (segment_after n s) ≡ segment_left s - n
-segment_left-after n (Memory bytes) = length-drop n bytes
-segment_left-after n (File r) = refl
-
 pub some_left : (s : Segment) → IsHeld s → 0 < segment_left s
 some_left (Memory bytes) held = held
 some_left (File r) held = held.0

@@ -1,13 +1,12 @@
 -- What a chunk from a pool is, and what is kept with it.
-use Rattle.std.proofs.Common.{◌≡◌, ℕ, ◌+◌, ◌≤◌, List, [], ◌∷◌, ◌++◌, length, arith, ap, sym, ◌∙◌}
+use Rattle.std.proofs.Common.{◌≡◌, ℕ, List, [], ◌∷◌, ◌++◌, arith, ap, sym, ◌∙◌}
 use Rattle.std.specs.Prelude.{Ok}
 use Rattle.buffer_pool.specs.State.{ChunkState, PoolState}
 use Rattle.buffer_pool.specs.Edits.{blank}
-use Rattle.buffer_pool.specs.Kept.{places, Kept}
+use Rattle.buffer_pool.specs.Kept.{Kept}
 use Rattle.buffer_pool.specs.Pool.{takes_from}
 use Rattle.buffer_pool.proofs.Keeping.{places_append, made_between-sum}
 use Rattle.std.proofs.lemmas.List.{length-append}
-use Rattle.chunkqueue.specs.Pooled.{FillsOnly}
 
 named : (c : ChunkState) (n : ℕ) → c ≡ blank n → c ≡ blank c.number
 named c n e = e ∙ ap blank (sym (ap (λ (d : ChunkState). d.number) e))
@@ -20,29 +19,12 @@ pub taken_blank : (free : List ℕ) (p q : PoolState) (c : ChunkState) → takes
 taken_blank [] p q c had = named c p.made had.0
 taken_blank (n ∷ free) p q c had = named c n (inside c n free p q had)
 
-pub taken_filled : (free : List ℕ) (p q : PoolState) (c : ChunkState) → takes_from free p (Ok c) q → q.filled ≡ p.filled
-taken_filled [] p q c had = ap (λ (s : PoolState). s.filled) had.2
-taken_filled (n ∷ free) p q c had = ap (λ (s : PoolState). s.filled) had.1
-
--- and one node less is spare
-pub taken_spare : (free : List ℕ) (p q : PoolState) (c : ChunkState) → p.free ≡ free → takes_from free p (Ok c) q → length p.free ≤ length q.free + 1
-taken_spare [] p q c e had = omega (arith, ap length e)
-taken_spare (n ∷ free) p q c e had = omega (arith, ap length e, ap (λ (s : PoolState). length s.free) had.1)
-
 -- a chunk that was taken, and changed, stands behind the others
 pub kept_pushed : (p q r : PoolState) (l : List ℕ) (n : ℕ) → Kept p [] q (n ∷ []) → Kept q (n ∷ []) r (n ∷ []) → Kept p l r (l ++ n ∷ [])
 kept_pushed p q r l n one two = record {
   rises = omega (arith, one.rises, two.rises);
   counts = λ m. grind (arith, one.counts m, two.counts m, places_append m l (n ∷ []), made_between-sum p.made q.made r.made m one.rises two.rises);
   total = omega (arith, one.total, two.total, length-append l (n ∷ []));
-}
-
--- nothing but bytes were counted
-pub kept_filled : (p q : PoolState) (l : List ℕ) (n : ℕ) → FillsOnly p q n → Kept p l q l
-kept_filled p q l n only = record {
-  rises = omega (arith, only.made);
-  counts = λ m. grind (arith, ap (places m) only.free, only.made);
-  total = omega (arith, only.made, ap length only.free);
 }
 
 pub kept_taken : (p q : PoolState) (l new : List ℕ) (n : ℕ) → Kept p [] q (n ∷ []) → new ≡ l ++ n ∷ [] → Kept p l q new

@@ -14,7 +14,8 @@ pub const MERGE_SIZE: usize = 2048;
 
 // What the last chunk holds and the room behind that, where it holds bytes in memory.
 fn last_memory(chunks: &ChunkList) -> Option<(usize, usize)>
-    ensures { MatchOption result (0 < length chunks.now → weight_of (last_of chunks.now) ≡ MERGE_SIZE)
+    ensures { MatchOption result
+        (0 < length chunks.now → (weight_of (last_of chunks.now) ≡ MERGE_SIZE) × ((last_of chunks.now).kind ≡ Bytes → ⊥))
         (λ m. (0 < length chunks.now) × ((last_of chunks.now).kind ≡ Bytes) × (m.0 ≡ length (last_of chunks.now).bytes) × (m.1 ≡ (last_of chunks.now).room) × (m.0 + m.1 ≤ BUFFER_SIZE)) }
 {
     let view = chunks.back()?;
@@ -30,6 +31,7 @@ pub(crate) fn fill_back(chunks: &mut ChunkList, pool: &mut Pool, bytes: &[u8]) -
     requires some { 0 < length bytes.now }
     ensures gains { OnTrue result (Gains chunks.old chunks.new (map Byte bytes.now)) }
     ensures same { OnFalse result ((chunks.new ≡ chunks.old) × (pool.new ≡ pool.old)) }
+    ensures full { OnFalse result (0 < length chunks.old → (last_of chunks.old).kind ≡ Bytes → (last_of chunks.old).room < length bytes.now) }
     ensures numbers { numbers chunks.new ≡ numbers chunks.old }
     ensures pool { FillsOnly pool.old pool.new (length bytes.now) }
 {

@@ -37,6 +37,8 @@ impl Queue for PlainQueue {
 
     ghost stored = { λ s. s };
 
+    ghost dense = { λ _. Unit {0} };
+
     fn new() -> PlainQueue {
         PlainQueue {
             chain: Chain::new(),

@@ -43,12 +43,15 @@ impl ChunkQueue {
     }
 }
 
+#[tactic(auto, using(crate::proofs::Queues::kept_dense, crate::proofs::Queues::pooled_dense))]
 impl Queue for ChunkQueue {
     type Owner = Pool;
 
     ghost contents = { λ q. q };
 
     ghost stored = { λ s. s };
+
+    ghost dense = { IsDense };
 
     fn new() -> ChunkQueue {
         ChunkQueue {
@@ -58,6 +61,8 @@ impl Queue for ChunkQueue {
     }
 
     fn push_bytes(&mut self, store: &mut Pool, bytes: &[u8]) -> Result<(), NoMemory> {
+        // Dense where nothing is pushed, too: a look at the chunks brings their invariant.
+        let _ = &self.chunks;
         if bytes.is_empty() {
             return Ok(());
         }
@@ -77,6 +82,7 @@ impl Queue for ChunkQueue {
         start: u64,
         len: u64,
     ) -> Result<(), NoMemory> {
+        let _ = &self.chunks;
         if len == 0 {
             return Ok(());
         }
@@ -96,6 +102,8 @@ impl Queue for ChunkQueue {
     }
 
     fn steal(&mut self, store: &mut Pool, from: &mut ChunkQueue, n: u64) -> Result<(), NoMemory> {
+        let _ = &self.chunks;
+        let _ = &from.chunks;
         if n == 0 {
             return Ok(());
         }

@@ -22,9 +22,13 @@ pub trait Queue {
     /// What a store keeps.
     ghost stored: { Self.Owner → PoolState };
 
+    /// That few nodes hold what waits, as each call leaves it.
+    ghost dense: { Contents → Type 0 };
+
     /// An empty queue.
     fn new() -> Self
-        ensures { contents result ≡ empty };
+        ensures empty { contents result ≡ empty }
+        ensures dense { dense (contents result) };
 
     /// Appends bytes, all or none.
     fn push_bytes(&mut self, store: &mut Self::Owner, bytes: &[u8]) -> Result<(), NoMemory>
@@ -34,6 +38,7 @@ pub trait Queue {
         ensures err { OnErr result (contents self.new ≡ contents self.old) }
         ensures staged { staged_of (contents self.new) ≡ staged_of (contents self.old) }
         ensures spare { length bytes.now ≤ BUFFER_SIZE * length (stored store.old).free → IsOk result }
+        ensures dense { dense (contents self.new) }
         ensures filled { (stored store.new).filled ≤ (stored store.old).filled + length bytes.now + MERGE_SIZE }
         ensures kept { Kept (stored store.old) (contents self.old).numbers (stored store.new) (contents self.new).numbers };
 
@@ -52,6 +57,7 @@ pub trait Queue {
         ensures err { OnErr result (contents self.new ≡ contents self.old) }
         ensures staged { staged_of (contents self.new) ≡ staged_of (contents self.old) }
         ensures spare { min len 1 ≤ length (stored store.old).free → IsOk result }
+        ensures dense { dense (contents self.new) }
         ensures filled { (stored store.new).filled ≡ (stored store.old).filled }
         ensures kept { Kept (stored store.old) (contents self.old).numbers (stored store.new) (contents self.new).numbers };
 
@@ -63,6 +69,7 @@ pub trait Queue {
         ensures from { contents from.new ≡ empty }
         ensures staged { staged_of (contents self.new) ≡
             staged_behind (items_of (contents self.old)) (staged_of (contents self.old)) (staged_of (contents from.old)) }
+        ensures dense { dense (contents self.new) × dense (contents from.new) }
         ensures filled { (stored store.new).filled ≤ (stored store.old).filled + 2 * MERGE_SIZE }
         ensures kept { Kept (stored store.old) ((contents self.old).numbers ++ (contents from.old).numbers)
             (stored store.new) (contents self.new).numbers };
@@ -80,6 +87,7 @@ pub trait Queue {
         ensures staged { staged_of (contents self.new) ≡ staged_of (contents self.old) }
         ensures rest { OnOk result (0 < n → staged_of (contents from.new) ≡ []) }
         ensures spare { min (min n (count_of (contents from.old) - n)) 1 ≤ length (stored store.old).free → IsOk result }
+        ensures dense { dense (contents self.new) × dense (contents from.new) }
         ensures filled { (stored store.new).filled ≤ (stored store.old).filled + BUFFER_SIZE + 2 * MERGE_SIZE }
         ensures kept { Kept (stored store.old) ((contents self.old).numbers ++ (contents from.old).numbers)
             (stored store.new) ((contents self.new).numbers ++ (contents from.new).numbers) };
@@ -117,6 +125,7 @@ pub trait Queue {
         ensures disk { F.tells → F.disk files.new ≡ F.disk files.old }
         ensures faults { F.faults files.old ≤ F.faults files.new }
         ensures later { F.later files.old files.new }
+        ensures dense { dense (contents self.new) }
         ensures filled { (stored store.new).filled ≤ (stored store.old).filled + BUFFER_SIZE }
         ensures kept { Kept (stored store.old) (contents self.old).numbers (stored store.new) (contents self.new).numbers };
 
@@ -126,6 +135,7 @@ pub trait Queue {
         requires within { n ≤ length (front_of (contents self.old)) }
         ensures items { items_of (contents self.new) ≡ drop n (items_of (contents self.old)) }
         ensures staged { staged_of (contents self.new) ≡ drop n (staged_of (contents self.old)) }
+        ensures dense { dense (contents self.new) }
         ensures filled { (stored store.new).filled ≡ (stored store.old).filled }
         ensures kept { Kept (stored store.old) (contents self.old).numbers (stored store.new) (contents self.new).numbers };
 
@@ -140,6 +150,7 @@ pub trait Queue {
     fn empty_into(&mut self, store: &mut Self::Owner)
         requires { HeldWithin (stored store.old) (length (contents self.old).numbers) }
         ensures empty { contents self.new ≡ empty }
+        ensures dense { dense (contents self.new) }
         ensures filled { (stored store.new).filled ≡ (stored store.old).filled }
         ensures kept { Kept (stored store.old) (contents self.old).numbers (stored store.new) [] };
 
