@@ -5,12 +5,12 @@ use Rattle.lt_world.specs.declared.net.Address.{Address}
 use Rattle.lt_script.specs.declared.script.Name.{Name}
 use Rattle.lt_script.specs.declared.script.Step.TheVariants as step
 use Rattle.lt_script.specs.declared.script.ScriptFile.TheVariants as file
-use Rattle.lt_script.specs.declared.script.TheConstants.{MOST_NAME, MOST_TIME, MOST_FILL, MOST_TAKE, MOST_COUNT}
+use Rattle.lt_script.specs.declared.script.TheConstants.{MOST_NAME, MOST_TIME, MOST_FILL, MOST_POUR, MOST_TAKE, MOST_COUNT}
 use Rattle.lt_script.specs.declared.lines.Line.{Line}
 use Rattle.lt_script.specs.declared.lines.Line.TheVariants.{Skip, File, Step}
 use Rattle.lt_script.specs.Fields.{digits_len, number_at, name_at, address_at, octet_at, end_at}
-use Rattle.lt_script.specs.Lines.{line_of, accept_of, data_of, end_of, take_of, file_of, fill_of}
-use Rattle.lt_script.specs.Grammar.{name_text, IsName, address_text, IsAddress, IsLine, IsAccept, IsData, IsEnd, IsTake, IsFile, IsFill}
+use Rattle.lt_script.specs.Lines.{line_of, plain_of, accept_of, data_of, pour_of, end_of, ready_of, read_fail_of, take_of, write_fail_of, file_of, fill_of, dir_of}
+use Rattle.lt_script.specs.Grammar.{name_text, IsName, address_text, IsAddress, IsLine, IsAccept, IsData, IsPour, IsEnd, IsReady, IsReadFail, IsTake, IsWriteFail, IsFile, IsFill, IsDir}
 use Rattle.lt_script.proofs.Numbers.{number_again, last_number}
 use Rattle.lt_script.proofs.Quoted.{quoted_again}
 
@@ -55,19 +55,41 @@ last_address : (address : Address) → IsAddress address → address_at (address
 last_address address is = ap address_at (sym (append-nil (address_text address))) ∙ address_again address [] is refl
 
 accept_again : (peer local : Address) (bytes : List ℕ) → IsAccept peer local bytes → line_of bytes ≡ Some (Step (step.Accept peer local))
-unfolding line_of accept_of
+unfolding line_of plain_of accept_of
 accept_again peer local bytes line = rw line.spelled (rw (address_again peer (codes " " ++ address_text local) line.is_peer refl) (rw (last_address local line.is_local) refl))
 
 data_again : (link : Name) (text bytes : List ℕ) → IsData link text bytes → line_of bytes ≡ Some (Step (step.Bytes link text))
 unfolding line_of data_of
 data_again link text bytes line = rw line.spelled (rw (name_again link (codes " \"" ++ (line.quoted ++ codes "\"")) line.is_name refl) (rw (quoted_again text line.quoted [] line.is_quoted) refl))
 
+pour_again : (link : Name) (size : ℕ) (bytes : List ℕ) → IsPour link size bytes → line_of bytes ≡ Some (Step (step.Pour link size))
+unfolding line_of plain_of pour_of
+pour_again link size bytes line =
+    rw line.spelled (rw (name_again link (codes " " ++ decimal size) line.is_name refl) (rw (last_number 1 MOST_POUR size line.some line.sized (omega arith)) refl))
+
 end_again : (link : Name) (bytes : List ℕ) → IsEnd link bytes → line_of bytes ≡ Some (Step (step.End link))
-unfolding line_of end_of
+unfolding line_of plain_of end_of
 end_again link bytes line = rw line.spelled (rw (last_name link line.is_name) refl)
 
+ready_again : (link : Name) (count : ℕ) (bytes : List ℕ) → IsReady link count bytes → line_of bytes ≡ Some (Step (step.Ready link count))
+unfolding line_of plain_of ready_of
+ready_again link count bytes line =
+    rw line.spelled (rw (name_again link (codes " " ++ decimal count) line.is_name refl) (rw (last_number 1 MOST_COUNT count line.some line.counted (omega arith)) refl))
+
+read_fail_again : (link : Name) (bytes : List ℕ) → IsReadFail link bytes → line_of bytes ≡ Some (Step (step.ReadFail link))
+unfolding line_of plain_of read_fail_of
+read_fail_again link bytes line = rw line.spelled (rw (last_name link line.is_name) refl)
+
+write_fail_again : (link : Name) (bytes : List ℕ) → IsWriteFail link bytes → line_of bytes ≡ Some (Step (step.WriteFail link))
+unfolding line_of plain_of write_fail_of
+write_fail_again link bytes line = rw line.spelled (rw (last_name link line.is_name) refl)
+
+idle_again : (bytes : List ℕ) → bytes ≡ codes "idle" → line_of bytes ≡ Some (Step step.Idle)
+unfolding line_of plain_of
+idle_again bytes is = rw is refl
+
 take_again : (link : Name) (size count : ℕ) (bytes : List ℕ) → IsTake link size count bytes → line_of bytes ≡ Some (Step (step.Take link size count))
-unfolding line_of take_of
+unfolding line_of plain_of take_of
 take_again link size count bytes line =
     rw line.spelled (rw (name_again link (codes " " ++ (decimal size ++ (codes " " ++ decimal count))) line.is_name refl)
     (rw (number_again 0 MOST_TAKE size (codes " " ++ decimal count) (omega arith) line.sized (omega arith) refl)
@@ -87,13 +109,23 @@ fill_again path time size bytes line =
     (rw (number_again 0 MOST_TIME time (codes " " ++ decimal size) (omega arith) line.dated (omega arith) refl)
     (rw (last_number 0 MOST_FILL size (omega arith) line.sized (omega arith)) (rw line.rooted refl))))
 
+dir_again : (path bytes : List ℕ) → IsDir path bytes → line_of bytes ≡ Some (File (file.Dir path))
+unfolding line_of dir_of
+dir_again path bytes line = rw line.spelled (rw (quoted_again path line.named [] line.is_named) (rw line.rooted refl))
+
 pub line_again : (line : Line) (bytes : List ℕ) → IsLine line bytes → line_of bytes ≡ Some line
-unfolding line_of
+unfolding line_of plain_of
 line_again (Step (step.Accept peer local)) bytes is = accept_again peer local bytes is
 line_again (Step (step.Bytes link text)) bytes is = data_again link text bytes is
+line_again (Step (step.Pour link size)) bytes is = pour_again link size bytes is
 line_again (Step (step.End link)) bytes is = end_again link bytes is
+line_again (Step (step.Ready link count)) bytes is = ready_again link count bytes is
+line_again (Step (step.ReadFail link)) bytes is = read_fail_again link bytes is
+line_again (Step (step.WriteFail link)) bytes is = write_fail_again link bytes is
+line_again (Step step.Idle) bytes is = idle_again bytes is
 line_again (Step (step.Take link size count)) bytes is = take_again link size count bytes is
 line_again (File (file.Bytes path time text)) bytes is = file_again path time text bytes is
 line_again (File (file.Fill path time size)) bytes is = fill_again path time size bytes is
+line_again (File (file.Dir path)) bytes is = dir_again path bytes is
 line_again Skip bytes (inl is) = rw is refl
 line_again Skip bytes (inr is) = rw is.1 refl

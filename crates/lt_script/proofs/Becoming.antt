@@ -1,18 +1,16 @@
 -- What a link becomes by each act.
-use Rattle.std.proofs.Common.{◌≡◌, ℕ, zero, suc, ◌-◌, ◌<◌, ◌≤◌, min, Bool, true, false, List, [], ◌∷◌, ◌++◌, length, take, drop, get_or, set, refl, ap, sym, ◌∙◌, arith, append-nil, length-append, length-take, length-drop, Some}
+use Rattle.std.proofs.Common.{if◌then◌else◌, ◌≡◌, ℕ, zero, suc, ◌-◌, ◌<◌, ◌≤◌, min, Bool, true, false, List, [], ◌∷◌, ◌++◌, length, take, drop, get_or, set, refl, ap, sym, ◌∙◌, arith, append-nil, length-append, length-take, length-drop, Some}
 use Rattle.std.proofs.lemmas.List.{take_min, take_all, length-map}
 use Rattle.std.proofs.Math.Seq.{drop-append_seam}
-use Rattle.lt_world.specs.declared.net.Address.{Address}
-use Rattle.lt_world.specs.declared.net.Owner.{Owner}
 use Rattle.lt_world.specs.declared.net.Ending.{Ending}
 use Rattle.lt_world.specs.declared.net.Got.{Got}
 use Rattle.lt_world.specs.declared.net.Got.TheVariants as got
-use Rattle.lt_world.specs.Trace.{Act, Read, own}
+use Rattle.lt_world.specs.Trace.{Act, Read, Failed, Reading, own}
 use Rattle.lt_world.specs.Answers.{read_act, GotWithin}
 use Rattle.lt_script.specs.declared.notes.Done.{Done}
 use Rattle.lt_script.specs.declared.notes.Done.TheVariants as done
 use Rattle.lt_script.specs.declared.links.Links.TheInside.{Inside}
-use Rattle.lt_script.specs.Sides.{Side, some_read, gives, with_bytes, with_end, with_close, with_read}
+use Rattle.lt_script.specs.Sides.{Side, some_read, gives, with_bytes, with_close, with_read}
 use Rattle.lt_script.specs.Calls.{some_taken}
 use Rattle.lt_script.specs.Kept.{Kept, kept_at, no_kept}
 use Rattle.lt_script.specs.Noted.{read_done, write_done}
@@ -38,8 +36,14 @@ stays kept side same = record { given = ([], same ∙ sym (append-nil kept.side.
 pub given_more : (kept : Kept) (bytes : List ℕ) (acts : List Act) → kept.taken ≡ output_of acts → kept.ending ≡ ending_of acts → Becomes kept done.Readable (record kept { side = with_bytes bytes kept.side }) acts
 given_more kept bytes acts taken ending = record { grows = record { given = (bytes, refl); taken = begins_all kept.taken }; fit = tt; taken = taken; ending = ending }
 
-pub given_end : (kept : Kept) (acts : List Act) → kept.taken ≡ output_of acts → kept.ending ≡ ending_of acts → Becomes kept done.Readable (record kept { side = with_end kept.side }) acts
-given_end kept acts taken ending = record { grows = stays kept (with_end kept.side) refl; fit = tt; taken = taken; ending = ending }
+-- a link is readable, and its side is another one, to which the same bytes were given
+pub side_readable : (kept : Kept) (side : Side) (acts : List Act) → side.given ≡ kept.side.given → kept.taken ≡ output_of acts → kept.ending ≡ ending_of acts
+    → Becomes kept done.Readable (record kept { side = side }) acts
+side_readable kept side acts same taken ending = record { grows = stays kept side same; fit = tt; taken = taken; ending = ending }
+
+pub side_writable : (kept : Kept) (side : Side) (acts : List Act) → side.given ≡ kept.side.given → kept.taken ≡ output_of acts → kept.ending ≡ ending_of acts
+    → Becomes kept done.Writable (record kept { side = side }) acts
+side_writable kept side acts same taken ending = record { grows = stays kept side same; fit = tt; taken = taken; ending = ending }
 
 pub given_room : (kept : Kept) (room : ℕ) (acts : List Act) → kept.taken ≡ output_of acts → kept.ending ≡ ending_of acts → Becomes kept done.Writable (record kept { room = room }) acts
 given_room kept room acts taken ending =
@@ -52,10 +56,11 @@ is_closed kept ending acts taken =
 
 -- a read
 
-read_by : (ended : Bool) (bytes read : List ℕ) → Read read ≡ some_read bytes ended → read ≡ bytes
-read_by true [] read is = absurd (cc is)
-read_by false [] read is = absurd (cc is)
-read_by ended (byte ∷ bytes) read is = cc is
+read_by : (fails ended : Bool) (bytes read : List ℕ) → Read read ≡ (if fails then Failed Reading else some_read bytes ended) → read ≡ bytes
+read_by true ended bytes read is = absurd (cc is)
+read_by false true [] read is = absurd (cc is)
+read_by false false [] read is = absurd (cc is)
+read_by false ended (byte ∷ bytes) read is = cc is
 
 record IsNoted (answer : Got) (kept : Kept) (buf : List ℕ) (at : ℕ) : Type 0 where
   act : act_of (read_done answer at) kept ≡ read_act answer buf
@@ -65,7 +70,7 @@ read_noted : (answer : Got) (kept : Kept) (buf : List ℕ) (size at : ℕ) → l
     → IsNoted answer kept buf at
 read_noted (got.Bytes n) kept buf size at whole is_seen within some act =
     let rest : List ℕ = drop kept.side.seen kept.side.given in
-    let read : take n buf ≡ take size rest = read_by kept.side.ended (take size rest) (take n buf) act in
+    let read : take n buf ≡ take size rest = read_by kept.side.reads_fail kept.side.ended (take size rest) (take n buf) act in
     let count : n ≡ min size (length rest) = omega (arith, length-take n buf, length-take size rest, ap length read, some.1, whole) in
     let left : length rest ≡ length kept.side.given - kept.side.seen = length-drop kept.side.seen kept.side.given in
     record {
@@ -144,6 +149,8 @@ is_kept_at ports link kept below is = is ∙ any_default ports link kept no_kept
     any_default (first ∷ ports) zero a b below = refl
     any_default (first ∷ ports) (suc link) a b below = any_default ports link a b (omega arith)
 
--- a connect that fails is noted alone
-pub not_connected : (kept : Kept) (owner : Owner) (to : Address) (acts : List Act) → kept.taken ≡ output_of acts → kept.ending ≡ ending_of acts → Becomes kept (done.Connect owner to) kept acts
-not_connected kept owner to acts taken ending = record { grows = record { given = begins_all kept.side.given; taken = begins_all kept.taken }; fit = tt; taken = taken; ending = ending }
+-- what is noted of a link that stays as it was
+pub only_noted : (what : Done) (kept : Kept) (acts : List Act) → fits what kept → output_of (act_of what kept ∷ acts) ≡ output_of acts → ending_of (act_of what kept ∷ acts) ≡ ending_of acts
+    → kept.taken ≡ output_of acts → kept.ending ≡ ending_of acts → Becomes kept what kept acts
+only_noted what kept acts fit takes closes taken ending =
+    record { grows = record { given = begins_all kept.side.given; taken = begins_all kept.taken }; fit = fit; taken = taken ∙ sym takes; ending = ending ∙ sym closes }

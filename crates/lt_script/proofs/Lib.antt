@@ -5,6 +5,9 @@ pub mod Again
 pub mod Taken
 pub mod Lining
 pub mod WholeTexts
+pub mod Feeds
+pub mod Requoted
+pub mod Printed
 pub mod Noting
 pub mod Telling
 pub mod Becoming
@@ -12,3 +15,4 @@ pub mod Turning
 pub mod Loading
 pub mod Pieces
 pub mod Runs
+pub mod Calm

@@ -17,6 +17,7 @@ use Rattle.lt_script.proofs.Turning.{rest_none}
 rooted_file : (f : ScriptFile) (line : List ℕ) → IsLine (File f) line → is_path (path_of f) ≡ true
 rooted_file (file.Bytes path time text) line is = is.rooted
 rooted_file (file.Fill path time size) line is = is.rooted
+rooted_file (file.Dir path) line is = is.rooted
 
 rooted_more : (f : ScriptFile) (files : List ScriptFile) → is_path (path_of f) ≡ true → AreRooted files → AreRooted (f ∷ files)
 rooted_more f files here rest zero other below = here

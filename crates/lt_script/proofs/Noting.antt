@@ -44,6 +44,7 @@ note_kept done.ReadFailed before after grows within = (refl, tt)
 note_kept (done.Wrote offered at len) before after grows within =
     (rw (grows.taken.1, piece_kept at len before.taken grows.taken.0 within) refl, omega (arith, ap length grows.taken.1, length-append before.taken grows.taken.0))
 note_kept done.WriteNotYet before after grows within = (refl, tt)
+note_kept done.WriteFailed before after grows within = (refl, tt)
 note_kept (done.Connect owner to) before after grows within = (refl, tt)
 note_kept (done.Close ending) before after grows within = (refl, tt)
 
@@ -119,6 +120,7 @@ no_dial done.ReadNotYet kept = refl
 no_dial done.ReadFailed kept = refl
 no_dial (done.Wrote offered at len) kept = refl
 no_dial done.WriteNotYet kept = refl
+no_dial done.WriteFailed kept = refl
 no_dial (done.Connect owner to) kept = refl
 no_dial (done.Close ending) kept = refl
 

@@ -2,10 +2,11 @@
 use Rattle.std.proofs.Common.{◌≡◌, ℕ, zero, suc, ◌+◌, ◌-◌, ◌<◌, ◌≤◌, min, Bool, true, false, List, [], ◌∷◌, ◌++◌, length, take, drop, refl, ap, sym, subst, ◌∙◌, arith, le_refl, append_assoc, append-nil, take-append-drop, length-append, length-drop, None, if◌then◌else◌, ◌==◌, nat_lt}
 use Rattle.std.proofs.lemmas.Bool.Decides.{nat_tests}
 use Rattle.std.proofs.lemmas.List.{get_or-set_same, get_or-set_other, get_or_past, set_past, take-append-le, take_min}
-use Rattle.lt_world.specs.Trace.{Act, Entry, Accepted, Readable, Writable, Connect, Close, Extends, own}
+use Rattle.lt_world.specs.Trace.{Act, Entry, Accepted, Readable, Writable, Failed, Reading, Connect, Close, Extends, own}
 use Rattle.lt_script.specs.declared.script.Step.{Step}
 use Rattle.lt_script.specs.declared.script.Step.TheVariants as step
-use Rattle.lt_script.specs.Sides.{Side, side_at, no_side, fresh_side, unread, some_read, gives, with_read, with_bytes, with_end, with_close}
+use Rattle.lt_script.specs.Letters.{letters}
+use Rattle.lt_script.specs.Sides.{Side, side_at, no_side, fresh_side, unread, some_read, gives, with_read, with_bytes, with_end, with_failing_reads, with_failing_writes, with_close}
 use Rattle.lt_script.specs.Steps.{allowed, change, skip, events_left, link_of}
 use Rattle.lt_script.specs.Views.{input_of}
 use Rattle.lt_script.specs.Calls.{Game, Call, Next, Reads, Writes, Connects, Closes, start, after, begin, tell, takes, some_taken}
@@ -32,7 +33,12 @@ begin_extends : (steps : List Step) (game : Game) → Extends game.trace (begin 
 begin_extends [] game = ([], refl)
 begin_extends (step.Accept peer local ∷ rest) game = (_ ∷ [], refl)
 begin_extends (step.Bytes name bytes ∷ rest) game = (_ ∷ [], refl)
+begin_extends (step.Pour name size ∷ rest) game = (_ ∷ [], refl)
 begin_extends (step.End name ∷ rest) game = (_ ∷ [], refl)
+begin_extends (step.Ready name count ∷ rest) game = (_ ∷ [], refl)
+begin_extends (step.ReadFail name ∷ rest) game = (_ ∷ [], refl)
+begin_extends (step.WriteFail name ∷ rest) game = (_ ∷ [], refl)
+begin_extends (step.Idle ∷ rest) game = ([], refl)
 begin_extends (step.Take name size count ∷ rest) game = (_ ∷ [], refl)
 
 begin_left : (steps : List Step) (game : Game) → events_left (begin steps game).left ≤ events_left steps
@@ -127,9 +133,21 @@ begin_read (step.Accept peer local ∷ rest) game all = λ other. told_by (lengt
 begin_read (step.Bytes name bytes ∷ rest) game all =
     let link = link_of name (length game.sides) in
     λ other. told_by (link == other) _ Readable (own other game.trace) refl (change_read game link (with_bytes bytes) (given_more bytes) all other)
+begin_read (step.Pour name size ∷ rest) game all =
+    let link = link_of name (length game.sides) in
+    λ other. told_by (link == other) _ Readable (own other game.trace) refl (change_read game link (with_bytes (letters size)) (given_more (letters size)) all other)
 begin_read (step.End name ∷ rest) game all =
     let link = link_of name (length game.sides) in
     λ other. told_by (link == other) _ Readable (own other game.trace) refl (change_read game link with_end (same_bytes with_end (λ s. refl) (λ s. refl)) all other)
+begin_read (step.Ready name count ∷ rest) game all =
+    λ other. told_by (link_of name (length game.sides) == other) _ Readable (own other game.trace) refl (all other)
+begin_read (step.ReadFail name ∷ rest) game all =
+    let link = link_of name (length game.sides) in
+    λ other. told_by (link == other) _ Readable (own other game.trace) refl (change_read game link with_failing_reads (same_bytes with_failing_reads (λ s. refl) (λ s. refl)) all other)
+begin_read (step.WriteFail name ∷ rest) game all =
+    let link = link_of name (length game.sides) in
+    λ other. told_by (link == other) _ Writable (own other game.trace) refl (change_read game link with_failing_writes (same_bytes with_failing_writes (λ s. refl) (λ s. refl)) all other)
+begin_read (step.Idle ∷ rest) game all = all
 begin_read (step.Take name size count ∷ rest) game all =
     λ other. told_by (link_of name (length game.sides) == other) _ Writable (own other game.trace) refl (all other)
 
@@ -150,15 +168,23 @@ given_input [] false acts = sym (append-nil (input_of acts))
 given_input (byte ∷ bytes) ended acts = refl
 
 read_front : (size : ℕ) (side : Side) (acts : List Act) → FrontRead side acts → FrontRead (with_read size side) (gives size side ∷ acts)
-read_front size side acts front =
-    let rest = unread side in
-    let left : length rest ≡ length side.given - side.seen = length-drop side.seen side.given in
-    let count = min size (length side.given - side.seen) in
-    record {
-      read = given_input (take size rest) side.ended acts ∙ ap (λ t. t ++ take size rest) front.read
-          ∙ ap (λ t. take side.seen side.given ++ t) (sym (take_min size rest) ∙ ap (λ n. take (min size n) rest) left) ∙ take_add side.seen count side.given;
-      within = omega (arith, front.within);
-    }
+read_front size side acts front = by side.reads_fail
+  where
+    count : ℕ
+    count = min size (length side.given - side.seen)
+
+    rest : List ℕ
+    rest = unread side
+
+    by : (fails : Bool) → FrontRead (record side { seen = if fails then side.seen else side.seen + count }) ((if fails then Failed Reading else some_read (take size rest) side.ended) ∷ acts)
+    by true = record { read = front.read; within = front.within }
+    by false =
+        let left : length rest ≡ length side.given - side.seen = length-drop side.seen side.given in
+        record {
+          read = given_input (take size rest) side.ended acts ∙ ap (λ t. t ++ take size rest) front.read
+              ∙ ap (λ t. take side.seen side.given ++ t) (sym (take_min size rest) ∙ ap (λ n. take (min size n) rest) left) ∙ take_add side.seen count side.given;
+          within = omega (arith, front.within);
+        }
 
 nothing_read : (side : Side) (acts : List Act) → side.given ≡ [] → FrontRead side acts → FrontRead no_side acts
 nothing_read side acts none front =
@@ -192,10 +218,16 @@ taken_input : (n : ℕ) (bytes : List ℕ) (acts : List Act) → input_of (some_
 taken_input zero bytes acts = refl
 taken_input (suc n) bytes acts = refl
 
+takes_input : (fails : Bool) (most : ℕ) (bytes : List ℕ) (acts : List Act) → input_of (takes fails most bytes ∷ acts) ≡ input_of acts
+takes_input true most bytes acts = refl
+takes_input false most bytes acts = taken_input (min most (length bytes)) bytes acts
+
 after_read : (call : Call) (game : Game) → AllRead game → AllRead (after call game)
 after_read Next game all = begin_read (skip game.sides game.left) game all
 after_read (Reads link size) game all = λ other. reads_by (link == other) game link other size refl all
-after_read (Writes link bytes) game all = tell_read game link (takes (allowed game.taker link) bytes) (λ acts. taken_input (min (allowed game.taker link) (length bytes)) bytes acts) all
+after_read (Writes link bytes) game all =
+    let fails = (side_at link game.sides).writes_fail in
+    tell_read game link (takes fails (allowed game.taker link) bytes) (λ acts. takes_input fails (allowed game.taker link) bytes acts) all
 after_read (Connects owner to) game all = tell_read game owner.conn (Connect owner to None) (λ acts. refl) all
 after_read (Closes link ending) game all =
     tell_read (record game { sides = change link with_close game.sides }) link (Close ending) (λ acts. refl) (change_read game link with_close (same_bytes with_close (λ s. refl) (λ s. refl)) all)

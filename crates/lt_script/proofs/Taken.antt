@@ -7,13 +7,13 @@ use Rattle.lt_world.specs.Memory.{is_path}
 use Rattle.lt_script.specs.declared.script.Name.{Name}
 use Rattle.lt_script.specs.declared.script.Step.TheVariants as step
 use Rattle.lt_script.specs.declared.script.ScriptFile.TheVariants as file
-use Rattle.lt_script.specs.declared.script.TheConstants.{MOST_NAME, MOST_TIME, MOST_FILL, MOST_TAKE, MOST_COUNT}
+use Rattle.lt_script.specs.declared.script.TheConstants.{MOST_NAME, MOST_TIME, MOST_FILL, MOST_POUR, MOST_TAKE, MOST_COUNT}
 use Rattle.lt_script.specs.declared.lines.Line.{Line}
 use Rattle.lt_script.specs.declared.lines.Line.TheVariants.{Skip, File, Step}
 use Rattle.lt_script.specs.declared.quoting.State.TheVariants.{Plain}
 use Rattle.lt_script.specs.Quoting.{unquote}
 use Rattle.lt_script.specs.Fields.{number_at, name_at, address_at, octet_at, end_at, after}
-use Rattle.lt_script.specs.Lines.{line_of, ended, on, accept_of, data_of, end_of, take_of, file_of, fill_of}
+use Rattle.lt_script.specs.Lines.{line_of, plain_of, ended, on, accept_of, data_of, pour_of, end_of, ready_of, read_fail_of, take_of, write_fail_of, file_of, fill_of, dir_of}
 use Rattle.lt_script.specs.Grammar.{name_text, IsName, address_text, IsAddress, IsLine}
 use Rattle.lt_script.proofs.Fronts.{after_takes}
 use Rattle.lt_script.proofs.Numbers.{number_takes}
@@ -149,16 +149,85 @@ data_takes bytes said some =
           ∙ ap (λ r. codes " \"" ++ r) (w2.2 ∙ ap (λ r. w2.0 ++ r) (ap (λ r. codes "\"" ++ r) e.0))));
     })
 
+-- a link, and nothing more
+record NamesOne (make : Name → Line) (bytes : List ℕ) (said : Line) : Type 0 where
+  link : Name
+  is_name : IsName link
+  says : make link ≡ said
+  spelled : bytes ≡ name_text link
+
+one_name : (make : Name → Line) (bytes : List ℕ) (said : Line) → option_and_then (λ x. ended x.1 (make x.0)) (name_at bytes) ≡ Some said → NamesOne make bytes said
+one_name make bytes said some =
+    let v = bound (name_at bytes) (λ x. ended x.1 (make x.0)) said some in
+    let w = name_takes bytes v.0 v.1 in
+    let e = ended_takes v.0.1 (make v.0.0) said v.2 in
+    record { link = v.0.0; is_name = w.is; says = e.1; spelled = w.spelled ∙ ap (λ r. name_text v.0.0 ++ r) e.0 ∙ append-nil (name_text v.0.0) }
+
+-- a link and a number, and nothing more
+record NamesCount (least most : ℕ) (make : Name → ℕ → Line) (bytes : List ℕ) (said : Line) : Type 0 where
+  link : Name
+  count : ℕ
+  is_name : IsName link
+  low : least ≤ count
+  high : count ≤ most
+  says : make link count ≡ said
+  spelled : bytes ≡ name_text link ++ (codes " " ++ decimal count)
+
+one_count : (least most : ℕ) (make : Name → ℕ → Line) (bytes : List ℕ) (said : Line)
+    → option_and_then (λ x. option_and_then (λ gap. option_and_then (λ n. ended n.1 (make x.0 n.0)) (number_at least most gap)) (after (codes " ") x.1)) (name_at bytes) ≡ Some said
+    → NamesCount least most make bytes said
+one_count least most make bytes said some =
+    let v0 = bound (name_at bytes) _ said some in
+    let w0 = name_takes bytes v0.0 v0.1 in
+    let v1 = bound (after (codes " ") v0.0.1) _ said v0.2 in
+    let v2 = bound (number_at least most v1.0) _ said v1.2 in
+    let w2 = number_takes least most v1.0 v2.0 v2.1 in
+    let e = ended_takes v2.0.1 (make v0.0.0 v2.0.0) said v2.2 in
+    record {
+      link = v0.0.0;
+      count = v2.0.0;
+      is_name = w0.is;
+      low = w2.low;
+      high = w2.high;
+      says = e.1;
+      spelled = w0.spelled ∙ ap (λ r. name_text v0.0.0 ++ r) (after_takes (codes " ") v0.0.1 v1.0 v1.1
+          ∙ ap (λ r. codes " " ++ r) (w2.spelled ∙ ap (λ r. decimal v2.0.0 ++ r) e.0 ∙ append-nil (decimal v2.0.0)));
+    }
+
 end_takes : (bytes : List ℕ) (said : Line) → end_of bytes ≡ Some said → IsLine said (codes "end " ++ bytes)
 unfolding end_of
 end_takes bytes said some =
-    let v0 = bound (name_at bytes) _ said some in
-    let w0 = name_takes bytes v0.0 v0.1 in
-    let e = ended_takes v0.0.1 (Step (step.End v0.0.0)) said v0.2 in
-    subst (λ (l : Line). IsLine l (codes "end " ++ bytes)) e.1 (record {
-      is_name = w0.is;
-      spelled = ap (λ r. codes "end " ++ r) (w0.spelled ∙ ap (λ r. name_text v0.0.0 ++ r) e.0 ∙ append-nil (name_text v0.0.0));
-    })
+    let n = one_name (λ link. Step (step.End link)) bytes said some in
+    subst (λ (l : Line). IsLine l (codes "end " ++ bytes)) n.says (record { is_name = n.is_name; spelled = ap (λ r. codes "end " ++ r) n.spelled })
+
+read_fail_takes : (bytes : List ℕ) (said : Line) → read_fail_of bytes ≡ Some said → IsLine said (codes "rfail " ++ bytes)
+unfolding read_fail_of
+read_fail_takes bytes said some =
+    let n = one_name (λ link. Step (step.ReadFail link)) bytes said some in
+    subst (λ (l : Line). IsLine l (codes "rfail " ++ bytes)) n.says (record { is_name = n.is_name; spelled = ap (λ r. codes "rfail " ++ r) n.spelled })
+
+write_fail_takes : (bytes : List ℕ) (said : Line) → write_fail_of bytes ≡ Some said → IsLine said (codes "wfail " ++ bytes)
+unfolding write_fail_of
+write_fail_takes bytes said some =
+    let n = one_name (λ link. Step (step.WriteFail link)) bytes said some in
+    subst (λ (l : Line). IsLine l (codes "wfail " ++ bytes)) n.says (record { is_name = n.is_name; spelled = ap (λ r. codes "wfail " ++ r) n.spelled })
+
+pour_takes : (bytes : List ℕ) (said : Line) → pour_of bytes ≡ Some said → IsLine said (codes "pour " ++ bytes)
+unfolding pour_of
+pour_takes bytes said some =
+    let n = one_count 1 MOST_POUR (λ link size. Step (step.Pour link size)) bytes said some in
+    subst (λ (l : Line). IsLine l (codes "pour " ++ bytes)) n.says (record { is_name = n.is_name; some = n.low; sized = n.high; spelled = ap (λ r. codes "pour " ++ r) n.spelled })
+
+ready_takes : (bytes : List ℕ) (said : Line) → ready_of bytes ≡ Some said → IsLine said (codes "ready " ++ bytes)
+unfolding ready_of
+ready_takes bytes said some =
+    let n = one_count 1 MOST_COUNT (λ link count. Step (step.Ready link count)) bytes said some in
+    subst (λ (l : Line). IsLine l (codes "ready " ++ bytes)) n.says (record { is_name = n.is_name; some = n.low; counted = n.high; spelled = ap (λ r. codes "ready " ++ r) n.spelled })
+
+idle_takes : (bytes : List ℕ) (said : Line) → ended bytes (Step step.Idle) ≡ Some said → IsLine said (codes "idle" ++ bytes)
+idle_takes bytes said some =
+    let e = ended_takes bytes (Step step.Idle) said some in
+    subst (λ (l : Line). IsLine l (codes "idle" ++ bytes)) e.1 (ap (λ r. codes "idle" ++ r) e.0)
 
 take_takes : (bytes : List ℕ) (said : Line) → take_of bytes ≡ Some said → IsLine said (codes "take " ++ bytes)
 unfolding take_of
@@ -231,6 +300,20 @@ fill_takes bytes said some =
           ∙ ap (λ r. codes " " ++ r) (w4.spelled ∙ ap (λ r. decimal v4.0.0 ++ r) e.0 ∙ append-nil (decimal v4.0.0))))));
     })
 
+dir_takes : (bytes : List ℕ) (said : Line) → dir_of bytes ≡ Some said → IsLine said (codes "dir \"" ++ bytes)
+unfolding dir_of
+dir_takes bytes said some =
+    let v0 = bound (unquote bytes Plain) _ said some in
+    let w0 = quoted_takes bytes v0.0 v0.1 in
+    let path = path_by (is_path v0.0.0) (ended v0.0.1 (File (file.Dir v0.0.0))) said v0.2 in
+    let e = ended_takes v0.0.1 (File (file.Dir v0.0.0)) said path.1 in
+    subst (λ (l : Line). IsLine l (codes "dir \"" ++ bytes)) e.1 (record {
+      named = w0.0;
+      rooted = path.0;
+      is_named = w0.1;
+      spelled = ap (λ r. codes "dir \"" ++ r) (w0.2 ∙ ap (λ r. w0.0 ++ r) (ap (λ r. codes "\"" ++ r) e.0));
+    })
+
 comment_takes : (bytes : List ℕ) (said : Line) → Some Skip ≡ Some said → IsLine said (codes "#" ++ bytes)
 comment_takes bytes said some =
     let e : Skip ≡ said = cc some in
@@ -247,13 +330,23 @@ on_takes : (o : Option (List ℕ)) (f : List ℕ → Option Line) (other : Optio
 on_takes None f other front line said has some here there = there some
 on_takes (Some rest) f other front line said has some here there = subst (λ (l : List ℕ). IsLine said l) (sym (after_takes front line rest has)) (here rest some)
 
+plain_takes : (line : List ℕ) (said : Line) → plain_of line ≡ Some said → IsLine said line
+unfolding plain_of
+plain_takes line said some =
+    on_takes (after (codes "accept ") line) _ _ (codes "accept ") line said refl some (λ r h. accept_takes r said h) (λ some.
+    on_takes (after (codes "pour ") line) _ _ (codes "pour ") line said refl some (λ r h. pour_takes r said h) (λ some.
+    on_takes (after (codes "end ") line) _ _ (codes "end ") line said refl some (λ r h. end_takes r said h) (λ some.
+    on_takes (after (codes "ready ") line) _ _ (codes "ready ") line said refl some (λ r h. ready_takes r said h) (λ some.
+    on_takes (after (codes "rfail ") line) _ _ (codes "rfail ") line said refl some (λ r h. read_fail_takes r said h) (λ some.
+    on_takes (after (codes "take ") line) _ _ (codes "take ") line said refl some (λ r h. take_takes r said h) (λ some.
+    on_takes (after (codes "wfail ") line) _ _ (codes "wfail ") line said refl some (λ r h. write_fail_takes r said h) (λ some.
+    on_takes (after (codes "idle") line) _ _ (codes "idle") line said refl some (λ r h. idle_takes r said h) (λ some. empty_takes line said some))))))))
+
 pub line_takes : (line : List ℕ) (said : Line) → line_of line ≡ Some said → IsLine said line
 unfolding line_of
 line_takes line said some =
     on_takes (after (codes "#") line) _ _ (codes "#") line said refl some (λ r h. comment_takes r said h) (λ some.
-    on_takes (after (codes "accept ") line) _ _ (codes "accept ") line said refl some (λ r h. accept_takes r said h) (λ some.
     on_takes (after (codes "data ") line) _ _ (codes "data ") line said refl some (λ r h. data_takes r said h) (λ some.
-    on_takes (after (codes "end ") line) _ _ (codes "end ") line said refl some (λ r h. end_takes r said h) (λ some.
-    on_takes (after (codes "take ") line) _ _ (codes "take ") line said refl some (λ r h. take_takes r said h) (λ some.
     on_takes (after (codes "file \"") line) _ _ (codes "file \"") line said refl some (λ r h. file_takes r said h) (λ some.
-    on_takes (after (codes "fill \"") line) _ _ (codes "fill \"") line said refl some (λ r h. fill_takes r said h) (λ some. empty_takes line said some)))))))
+    on_takes (after (codes "fill \"") line) _ _ (codes "fill \"") line said refl some (λ r h. fill_takes r said h) (λ some.
+    on_takes (after (codes "dir \"") line) _ _ (codes "dir \"") line said refl some (λ r h. dir_takes r said h) (λ some. plain_takes line said some)))))

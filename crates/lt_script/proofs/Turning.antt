@@ -23,31 +23,56 @@ by_call call a b same made = record { same = same; calls = call ∷ []; plays = 
 lowered_due : (played : ℕ) (first : Step) (sides : List Side) → is_due (lowered played first) sides ≡ is_due first sides
 lowered_due played (step.Accept peer local) sides = refl
 lowered_due played (step.Bytes name bytes) sides = refl
+lowered_due played (step.Pour name size) sides = refl
 lowered_due played (step.End name) sides = refl
+lowered_due played (step.Ready name count) sides = refl
+lowered_due played (step.ReadFail name) sides = refl
+lowered_due played (step.WriteFail name) sides = refl
+lowered_due played step.Idle sides = refl
 lowered_due played (step.Take name size count) sides = refl
 
 pub lowered_event : (played : ℕ) (first : Step) (links : ℕ) → event_of (lowered played first) links ≡ event_of first links
 lowered_event played (step.Accept peer local) links = refl
 lowered_event played (step.Bytes name bytes) links = refl
+lowered_event played (step.Pour name size) links = refl
 lowered_event played (step.End name) links = refl
+lowered_event played (step.Ready name count) links = refl
+lowered_event played (step.ReadFail name) links = refl
+lowered_event played (step.WriteFail name) links = refl
+lowered_event played step.Idle links = refl
 lowered_event played (step.Take name size count) links = refl
 
 pub lowered_sides : (played : ℕ) (first : Step) (sides : List Side) → sides_after (lowered played first) sides ≡ sides_after first sides
 lowered_sides played (step.Accept peer local) sides = refl
 lowered_sides played (step.Bytes name bytes) sides = refl
+lowered_sides played (step.Pour name size) sides = refl
 lowered_sides played (step.End name) sides = refl
+lowered_sides played (step.Ready name count) sides = refl
+lowered_sides played (step.ReadFail name) sides = refl
+lowered_sides played (step.WriteFail name) sides = refl
+lowered_sides played step.Idle sides = refl
 lowered_sides played (step.Take name size count) sides = refl
 
 pub lowered_taker : (played : ℕ) (first : Step) (links : ℕ) → taker_of (lowered played first) links ≡ taker_of first links
 lowered_taker played (step.Accept peer local) links = refl
 lowered_taker played (step.Bytes name bytes) links = refl
+lowered_taker played (step.Pour name size) links = refl
 lowered_taker played (step.End name) links = refl
+lowered_taker played (step.Ready name count) links = refl
+lowered_taker played (step.ReadFail name) links = refl
+lowered_taker played (step.WriteFail name) links = refl
+lowered_taker played step.Idle links = refl
 lowered_taker played (step.Take name size count) links = refl
 
 lowered_none : (first : Step) → lowered 0 first ≡ first
 lowered_none (step.Accept peer local) = refl
 lowered_none (step.Bytes name bytes) = refl
+lowered_none (step.Pour name size) = refl
 lowered_none (step.End name) = refl
+lowered_none (step.Ready name count) = let e : count - 0 ≡ count = omega arith in rw e refl
+lowered_none (step.ReadFail name) = refl
+lowered_none (step.WriteFail name) = refl
+lowered_none step.Idle = refl
 lowered_none (step.Take name size count) = let e : count - 0 ≡ count = omega arith in rw e refl
 
 pub rest_none : (steps : List Step) → rest_of 0 steps ≡ steps
@@ -119,23 +144,41 @@ skip_left sides (first ∷ steps) = grind (arith, skip_left sides steps)
 lowers : (name : Name) (size count : ℕ) (rest : List Step) → events_left (if nat_lt 1 count then step.Take name size (count - 1) ∷ rest else rest) < max count 1 + events_left rest
 lowers name size count rest = grind (arith, nat_tests)
 
+lowers_ready : (name : Name) (count : ℕ) (rest : List Step) → events_left (if nat_lt 1 count then step.Ready name (count - 1) ∷ rest else rest) < max count 1 + events_left rest
+lowers_ready name count rest = grind (arith, nat_tests)
+
 step_uses : (first : Step) (rest : List Step) (links : ℕ) → UsesEvent (event_of first links) (events_left (first ∷ rest)) (events_left (less first rest))
 step_uses (step.Accept peer local) rest links = omega arith
 step_uses (step.Bytes name bytes) rest links = omega arith
+step_uses (step.Pour name size) rest links = omega arith
 step_uses (step.End name) rest links = omega arith
+step_uses (step.Ready name count) rest links = lowers_ready name count rest
+step_uses (step.ReadFail name) rest links = omega arith
+step_uses (step.WriteFail name) rest links = omega arith
+step_uses step.Idle rest links = omega arith
 step_uses (step.Take name size count) rest links = lowers name size count rest
 
 -- an event takes nothing back
 pub step_less : (first : Step) (rest : List Step) → events_left (less first rest) ≤ events_left (first ∷ rest)
 step_less (step.Accept peer local) rest = omega arith
 step_less (step.Bytes name bytes) rest = omega arith
+step_less (step.Pour name size) rest = omega arith
 step_less (step.End name) rest = omega arith
+step_less (step.Ready name count) rest = omega (arith, lowers_ready name count rest)
+step_less (step.ReadFail name) rest = omega arith
+step_less (step.WriteFail name) rest = omega arith
+step_less step.Idle rest = omega arith
 step_less (step.Take name size count) rest = omega (arith, lowers name size count rest)
 
 uses_more : (first : Step) (links few many now : ℕ) → few ≤ many → UsesEvent (event_of first links) few now → UsesEvent (event_of first links) many now
 uses_more (step.Accept peer local) links few many now more uses = omega arith
 uses_more (step.Bytes name bytes) links few many now more uses = omega arith
+uses_more (step.Pour name size) links few many now more uses = omega arith
 uses_more (step.End name) links few many now more uses = omega arith
+uses_more (step.Ready name count) links few many now more uses = omega arith
+uses_more (step.ReadFail name) links few many now more uses = omega arith
+uses_more (step.WriteFail name) links few many now more uses = omega arith
+uses_more step.Idle links few many now more uses = omega arith
 uses_more (step.Take name size count) links few many now more uses = omega arith
 
 begin_uses : (steps : List Step) (game : Game) (many : ℕ) → events_left steps ≤ many → UsesEvent (answer_of steps game.sides) many (events_left (begin steps game).left)
@@ -169,7 +212,12 @@ open_known (side ∷ sides) (suc link) is = omega (arith, open_known sides link 
 step_numbered : (first : Step) (sides : List Side) → is_due first sides ≡ true → IsNumbered (event_of first (length sides)) (length sides) (length (sides_after first sides))
 step_numbered (step.Accept peer local) sides due = (le_refl (length sides), omega (arith, length-append sides (fresh_side ∷ [])))
 step_numbered (step.Bytes name bytes) sides due = (open_known sides (link_of name (length sides)) due, length-set sides (link_of name (length sides)) _)
+step_numbered (step.Pour name size) sides due = (open_known sides (link_of name (length sides)) due, length-set sides (link_of name (length sides)) _)
 step_numbered (step.End name) sides due = (open_known sides (link_of name (length sides)) due, length-set sides (link_of name (length sides)) _)
+step_numbered (step.Ready name count) sides due = (open_known sides (link_of name (length sides)) due, refl)
+step_numbered (step.ReadFail name) sides due = (open_known sides (link_of name (length sides)) due, length-set sides (link_of name (length sides)) _)
+step_numbered (step.WriteFail name) sides due = (open_known sides (link_of name (length sides)) due, length-set sides (link_of name (length sides)) _)
+step_numbered step.Idle sides due = refl
 step_numbered (step.Take name size count) sides due = (open_known sides (link_of name (length sides)) due, refl)
 
 begin_numbered : (steps : List Step) (game : Game) → FirstIsDue game.sides steps → IsNumbered (answer_of steps game.sides) (length game.sides) (length (begin steps game).sides)
@@ -185,7 +233,12 @@ turned_links event old new turns =
 step_fresh : (first : Step) (links : ℕ) (trace : List Entry) → names links trace ≡ false → IsFresh (event_of first links) trace
 step_fresh (step.Accept peer local) links trace fresh = fresh
 step_fresh (step.Bytes name bytes) links trace fresh = tt
+step_fresh (step.Pour name size) links trace fresh = tt
 step_fresh (step.End name) links trace fresh = tt
+step_fresh (step.Ready name count) links trace fresh = tt
+step_fresh (step.ReadFail name) links trace fresh = tt
+step_fresh (step.WriteFail name) links trace fresh = tt
+step_fresh step.Idle links trace fresh = tt
 step_fresh (step.Take name size count) links trace fresh = tt
 
 begin_fresh : (steps : List Step) (game : Game) → names (length game.sides) game.trace ≡ false → IsFresh (answer_of steps game.sides) game.trace

@@ -1,6 +1,6 @@
 -- What the calls of a net do where it plays a script.
-use Rattle.std.specs.Prelude.{◌≡◌, ℕ, zero, suc, List, [], ◌∷◌, length, take, min, Option, None}
-use Rattle.lt_world.specs.Trace.{Act, Entry, NotYet, Writing, Wrote, Connect, Close, said}
+use Rattle.std.specs.Prelude.{◌≡◌, ℕ, zero, suc, ◌+◌, ◌-◌, ◌^◌, List, [], ◌∷◌, length, take, min, Bool, Option, None, if◌then◌else◌}
+use Rattle.lt_world.specs.Trace.{Act, Entry, NotYet, Failed, Writing, Wrote, Connect, Close, said}
 use Rattle.lt_world.specs.Answers.{event_tells}
 use Rattle.lt_world.specs.declared.net.Address.{Address}
 use Rattle.lt_world.specs.declared.net.Owner.{Owner}
@@ -54,9 +54,9 @@ abbrev pub some_taken : ℕ → List ℕ → Act
 some_taken zero bytes = NotYet Writing
 some_taken (suc n) bytes = Wrote (length bytes) (take (suc n) bytes)
 
--- the answer of a write: as much as is allowed of what is offered
-abbrev pub takes : ℕ → List ℕ → Act
-takes most bytes = some_taken (min most (length bytes)) bytes
+-- the answer of a write: as much as is allowed of what is offered, or nothing where writes fail
+abbrev pub takes : Bool → ℕ → List ℕ → Act
+takes fails most bytes = if fails then Failed Writing else some_taken (min most (length bytes)) bytes
 
 abbrev pub tell : ℕ → Act → Game → Game
 tell link act game = record game { trace = said link (act ∷ []) game.trace }
@@ -65,7 +65,7 @@ tell link act game = record game { trace = said link (act ∷ []) game.trace }
 abbrev pub after : Call → Game → Game
 after Next game = begin (skip game.sides game.left) game
 after (Reads link size) game = tell link (gives size (side_at link game.sides)) (record game { sides = change link (with_read size) game.sides })
-after (Writes link bytes) game = tell link (takes (allowed game.taker link) bytes) game
+after (Writes link bytes) game = tell link (takes (side_at link game.sides).writes_fail (allowed game.taker link) bytes) game
 after (Connects owner to) game = tell owner.conn (Connect owner to None) game
 after (Closes link ending) game = tell link (Close ending) (record game { sides = change link with_close game.sides })
 
@@ -73,3 +73,9 @@ after (Closes link ending) game = tell link (Close ending) (record game { sides 
 abbrev pub Turns : Event → Game → Game → Type 0
 Turns NoMemory before now = now ≡ before
 Turns event before now = (event ≡ answer_of (skip before.sides before.left) before.sides) × (now ≡ after Next before)
+
+-- the count of failed calls after an answer: one that failed raises it, up to the greatest value
+abbrev pub counted : Act → ℕ → ℕ
+counted (Failed way) faults = min (faults + 1) (2 ^ 64 - 1)
+counted (Connect owner to None) faults = min (faults + 1) (2 ^ 64 - 1)
+counted other faults = faults

@@ -7,7 +7,7 @@ use Rattle.lt_world.specs.Memory.{is_path}
 use Rattle.lt_script.specs.declared.script.Name.{Name}
 use Rattle.lt_script.specs.declared.script.Step.TheVariants as step
 use Rattle.lt_script.specs.declared.script.ScriptFile.TheVariants as file
-use Rattle.lt_script.specs.declared.script.TheConstants.{MOST_NAME, MOST_TIME, MOST_FILL, MOST_TAKE, MOST_COUNT}
+use Rattle.lt_script.specs.declared.script.TheConstants.{MOST_NAME, MOST_TIME, MOST_FILL, MOST_POUR, MOST_TAKE, MOST_COUNT}
 use Rattle.lt_script.specs.declared.lines.Line.{Line}
 use Rattle.lt_script.specs.declared.lines.Line.TheVariants.{Skip, File, Step}
 
@@ -53,9 +53,25 @@ pub record IsData (link : Name) (text bytes : List ℕ) : Type 0 where
   pub is_quoted : IsQuoted text quoted
   pub spelled : bytes ≡ codes "data " ++ (name_text link ++ (codes " \"" ++ (quoted ++ codes "\"")))
 
+pub record IsPour (link : Name) (size : ℕ) (bytes : List ℕ) : Type 0 where
+  pub is_name : IsName link
+  pub some : 1 ≤ size
+  pub sized : size ≤ MOST_POUR
+  pub spelled : bytes ≡ codes "pour " ++ (name_text link ++ (codes " " ++ decimal size))
+
 pub record IsEnd (link : Name) (bytes : List ℕ) : Type 0 where
   pub is_name : IsName link
   pub spelled : bytes ≡ codes "end " ++ name_text link
+
+pub record IsReady (link : Name) (count : ℕ) (bytes : List ℕ) : Type 0 where
+  pub is_name : IsName link
+  pub some : 1 ≤ count
+  pub counted : count ≤ MOST_COUNT
+  pub spelled : bytes ≡ codes "ready " ++ (name_text link ++ (codes " " ++ decimal count))
+
+pub record IsReadFail (link : Name) (bytes : List ℕ) : Type 0 where
+  pub is_name : IsName link
+  pub spelled : bytes ≡ codes "rfail " ++ name_text link
 
 pub record IsTake (link : Name) (size count : ℕ) (bytes : List ℕ) : Type 0 where
   pub is_name : IsName link
@@ -63,6 +79,10 @@ pub record IsTake (link : Name) (size count : ℕ) (bytes : List ℕ) : Type 0 w
   pub some : 1 ≤ count
   pub counted : count ≤ MOST_COUNT
   pub spelled : bytes ≡ codes "take " ++ (name_text link ++ (codes " " ++ (decimal size ++ (codes " " ++ decimal count))))
+
+pub record IsWriteFail (link : Name) (bytes : List ℕ) : Type 0 where
+  pub is_name : IsName link
+  pub spelled : bytes ≡ codes "wfail " ++ name_text link
 
 pub record IsFile (path : List ℕ) (time : ℕ) (text bytes : List ℕ) : Type 0 where
   pub named : List ℕ
@@ -81,6 +101,12 @@ pub record IsFill (path : List ℕ) (time size : ℕ) (bytes : List ℕ) : Type 
   pub sized : size ≤ MOST_FILL
   pub spelled : bytes ≡ codes "fill \"" ++ (named ++ (codes "\" " ++ (decimal time ++ (codes " " ++ decimal size))))
 
+pub record IsDir (path bytes : List ℕ) : Type 0 where
+  pub named : List ℕ
+  pub rooted : is_path path ≡ true
+  pub is_named : IsQuoted path named
+  pub spelled : bytes ≡ codes "dir \"" ++ (named ++ codes "\"")
+
 -- a comment, or nothing
 abbrev pub IsSkipped : List ℕ → Type 0
 IsSkipped bytes = (bytes ≡ []) ⊎ ((rest : List ℕ) × (bytes ≡ codes "#" ++ rest))
@@ -89,8 +115,14 @@ IsSkipped bytes = (bytes ≡ []) ⊎ ((rest : List ℕ) × (bytes ≡ codes "#" 
 abbrev pub IsLine : Line → List ℕ → Type 0
 IsLine (Step (step.Accept peer local)) bytes = IsAccept peer local bytes
 IsLine (Step (step.Bytes link text)) bytes = IsData link text bytes
+IsLine (Step (step.Pour link size)) bytes = IsPour link size bytes
 IsLine (Step (step.End link)) bytes = IsEnd link bytes
+IsLine (Step (step.Ready link count)) bytes = IsReady link count bytes
+IsLine (Step (step.ReadFail link)) bytes = IsReadFail link bytes
 IsLine (Step (step.Take link size count)) bytes = IsTake link size count bytes
+IsLine (Step (step.WriteFail link)) bytes = IsWriteFail link bytes
+IsLine (Step step.Idle) bytes = bytes ≡ codes "idle"
 IsLine (File (file.Bytes path time text)) bytes = IsFile path time text bytes
 IsLine (File (file.Fill path time size)) bytes = IsFill path time size bytes
+IsLine (File (file.Dir path)) bytes = IsDir path bytes
 IsLine Skip bytes = IsSkipped bytes

@@ -5,12 +5,14 @@ pub mod Lines
 pub mod Scripts
 pub mod Grammar
 pub mod Texts
+pub mod Letters
 pub mod Sides
 pub mod Views
 pub mod Steps
 pub mod Calls
 pub mod Plays
 pub mod Playing
+pub mod Failing
 pub mod Told
 pub mod Kept
 pub mod Ports
@@ -20,4 +22,5 @@ pub mod NetView
 pub mod Later
 pub mod Loads
 pub mod Reports
+pub mod Printing
 pub mod Laws

@@ -3,7 +3,7 @@ use Rattle.std.specs.Prelude.{ℕ, List, [], ◌∷◌, Option, Some, None, if�
 use Rattle.lt_world.specs.Memory.{is_path}
 use Rattle.lt_script.specs.declared.script.Step.TheVariants as step
 use Rattle.lt_script.specs.declared.script.ScriptFile.TheVariants as file
-use Rattle.lt_script.specs.declared.script.TheConstants.{MOST_TIME, MOST_FILL, MOST_TAKE, MOST_COUNT}
+use Rattle.lt_script.specs.declared.script.TheConstants.{MOST_TIME, MOST_FILL, MOST_POUR, MOST_TAKE, MOST_COUNT}
 use Rattle.lt_script.specs.declared.lines.Line.{Line}
 use Rattle.lt_script.specs.declared.lines.Line.TheVariants.{Skip, File, Step}
 use Rattle.lt_script.specs.declared.quoting.State.TheVariants.{Plain}
@@ -33,10 +33,29 @@ data_of bytes = do
   text ← unquote quote Plain
   ended text.1 (Step (step.Bytes link.0 text.0))
 
+unfoldable pub pour_of : List ℕ → Option Line
+pour_of bytes = do
+  link ← name_at bytes
+  gap ← after (codes " ") link.1
+  size ← number_at 1 MOST_POUR gap
+  ended size.1 (Step (step.Pour link.0 size.0))
+
 unfoldable pub end_of : List ℕ → Option Line
 end_of bytes = do
   link ← name_at bytes
   ended link.1 (Step (step.End link.0))
+
+unfoldable pub ready_of : List ℕ → Option Line
+ready_of bytes = do
+  link ← name_at bytes
+  gap ← after (codes " ") link.1
+  count ← number_at 1 MOST_COUNT gap
+  ended count.1 (Step (step.Ready link.0 count.0))
+
+unfoldable pub read_fail_of : List ℕ → Option Line
+read_fail_of bytes = do
+  link ← name_at bytes
+  ended link.1 (Step (step.ReadFail link.0))
 
 unfoldable pub take_of : List ℕ → Option Line
 take_of bytes = do
@@ -46,6 +65,11 @@ take_of bytes = do
   gap ← after (codes " ") size.1
   count ← number_at 1 MOST_COUNT gap
   ended count.1 (Step (step.Take link.0 size.0 count.0))
+
+unfoldable pub write_fail_of : List ℕ → Option Line
+write_fail_of bytes = do
+  link ← name_at bytes
+  ended link.1 (Step (step.WriteFail link.0))
 
 unfoldable pub file_of : List ℕ → Option Line
 file_of bytes = do
@@ -65,18 +89,34 @@ fill_of bytes = do
   size ← number_at 0 MOST_FILL gap
   if_path path.0 (ended size.1 (File (file.Fill path.0 time.0 size.0)))
 
+unfoldable pub dir_of : List ℕ → Option Line
+dir_of bytes = do
+  path ← unquote bytes Plain
+  if_path path.0 (ended path.1 (File (file.Dir path.0)))
+
 -- the first of these fronts that a line has decides what it is
 abbrev pub on : Option (List ℕ) → (List ℕ → Option Line) → Option Line → Option Line
 on None f other = other
 on (Some rest) f other = f rest
 
+-- a line without a text between quotes
+unfoldable pub plain_of : List ℕ → Option Line
+plain_of line =
+    on (after (codes "accept ") line) accept_of
+    (on (after (codes "pour ") line) pour_of
+    (on (after (codes "end ") line) end_of
+    (on (after (codes "ready ") line) ready_of
+    (on (after (codes "rfail ") line) read_fail_of
+    (on (after (codes "take ") line) take_of
+    (on (after (codes "wfail ") line) write_fail_of
+    (on (after (codes "idle") line) (λ rest. ended rest (Step step.Idle))
+    (ended line Skip))))))))
+
 unfoldable pub line_of : List ℕ → Option Line
 line_of line =
     on (after (codes "#") line) (λ rest. Some Skip)
-    (on (after (codes "accept ") line) accept_of
     (on (after (codes "data ") line) data_of
-    (on (after (codes "end ") line) end_of
-    (on (after (codes "take ") line) take_of
     (on (after (codes "file \"") line) file_of
     (on (after (codes "fill \"") line) fill_of
-    (ended line Skip)))))))
+    (on (after (codes "dir \"") line) dir_of
+    (plain_of line)))))

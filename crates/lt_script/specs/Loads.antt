@@ -1,22 +1,20 @@
 -- What the files of a script make of a tree.
-use Rattle.std.specs.Prelude.{◌≡◌, ℕ, true, zero, suc, ◌+◌, ◌<◌, ◌%◌, List, [], ◌∷◌, ◌++◌, length, get_or}
+use Rattle.std.specs.Prelude.{◌≡◌, ℕ, true, ◌<◌, List, [], ◌∷◌, length, get_or}
 use Rattle.lt_world.specs.Disk.{Tree}
-use Rattle.lt_world.specs.Memory.{with_file_at, is_path}
+use Rattle.lt_world.specs.Memory.{with_file_at, with_directory_at, is_path}
 use Rattle.lt_script.specs.declared.script.ScriptFile.{ScriptFile}
 use Rattle.lt_script.specs.declared.script.ScriptFile.TheVariants as file
-
--- the letters from `a` to `z`, again and again
-abbrev pub letters : ℕ → List ℕ
-letters zero = []
-letters (suc n) = letters n ++ (97 + n % 26) ∷ []
+use Rattle.lt_script.specs.Letters.{letters}
 
 abbrev pub path_of : ScriptFile → List ℕ
 path_of (file.Bytes path time bytes) = path
 path_of (file.Fill path time size) = path
+path_of (file.Dir path) = path
 
 abbrev pub with_file : ScriptFile → Tree → Tree
 with_file (file.Bytes path time bytes) tree = with_file_at path time bytes tree
 with_file (file.Fill path time size) tree = with_file_at path time (letters size) tree
+with_file (file.Dir path) tree = with_directory_at path tree
 
 -- the tree with these files, one after another
 abbrev pub planted : List ScriptFile → Tree → Tree

@@ -20,6 +20,7 @@ act_of done.ReadNotYet kept = NotYet Reading
 act_of done.ReadFailed kept = Failed Reading
 act_of (done.Wrote offered at len) kept = Wrote offered (take len (drop at kept.taken))
 act_of done.WriteNotYet kept = NotYet Writing
+act_of done.WriteFailed kept = Failed Writing
 act_of (done.Connect owner to) kept = Connect owner to None
 act_of (done.Close ending) kept = Close ending
 

@@ -5,7 +5,7 @@ use Rattle.lt_script.specs.Kept.{Kept}
 
 abbrev pub kept_of : Inside → Kept
 kept_of a = record {
-  side = record { is_open = is_none a.ending; given = a.given.items; seen = a.seen; ended = a.ended };
+  side = record { is_open = is_none a.ending; given = a.given.items; seen = a.seen; ended = a.ended; reads_fail = a.reads_fail; writes_fail = a.writes_fail };
   taken = a.taken.items;
   ending = a.ending;
   room = vec_capacity a.taken - vec_len a.taken;

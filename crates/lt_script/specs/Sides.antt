@@ -1,6 +1,6 @@
 -- One link as a script plays it.
 use Rattle.std.specs.Prelude.{ℕ, ◌+◌, ◌-◌, min, Bool, true, false, List, [], ◌∷◌, ◌++◌, length, take, drop, get_or, if◌then◌else◌}
-use Rattle.lt_world.specs.Trace.{Act, Read, ReadEnd, NotYet, Reading}
+use Rattle.lt_world.specs.Trace.{Act, Read, ReadEnd, NotYet, Failed, Reading}
 
 pub record Side : Type 0 where
   pub is_open : Bool
@@ -10,14 +10,18 @@ pub record Side : Type 0 where
   pub seen : ℕ
   -- nothing comes after them
   pub ended : Bool
+  -- each later read fails
+  pub reads_fail : Bool
+  -- each later write fails
+  pub writes_fail : Bool
 
 -- a link that arrives
 abbrev pub fresh_side : Side
-fresh_side = record { is_open = true; given = []; seen = 0; ended = false }
+fresh_side = record { is_open = true; given = []; seen = 0; ended = false; reads_fail = false; writes_fail = false }
 
 -- a link that never arrived
 abbrev pub no_side : Side
-no_side = record { is_open = false; given = []; seen = 0; ended = false }
+no_side = record { is_open = false; given = []; seen = 0; ended = false; reads_fail = false; writes_fail = false }
 
 abbrev pub side_at : ℕ → List Side → Side
 side_at link sides = get_or sides link no_side
@@ -30,13 +34,13 @@ abbrev pub some_read : List ℕ → Bool → Act
 some_read [] ended = if ended then ReadEnd else NotYet Reading
 some_read (byte ∷ bytes) ended = Read (byte ∷ bytes)
 
--- the answer of a read: what can be read, up to the buffer, else the end, else nothing yet
+-- the answer of a read: what can be read, up to the buffer, else the end, else nothing yet; where reads fail, none of it
 abbrev pub gives : ℕ → Side → Act
-gives size side = some_read (take size (unread side)) side.ended
+gives size side = if side.reads_fail then Failed Reading else some_read (take size (unread side)) side.ended
 
 -- after a read
 abbrev pub with_read : ℕ → Side → Side
-with_read size side = record side { seen = side.seen + min size (length side.given - side.seen) }
+with_read size side = record side { seen = if side.reads_fail then side.seen else side.seen + min size (length side.given - side.seen) }
 
 -- after more bytes were given
 abbrev pub with_bytes : List ℕ → Side → Side
@@ -44,6 +48,12 @@ with_bytes bytes side = record side { given = side.given ++ bytes }
 
 abbrev pub with_end : Side → Side
 with_end side = record side { ended = true }
+
+abbrev pub with_failing_reads : Side → Side
+with_failing_reads side = record side { reads_fail = true }
+
+abbrev pub with_failing_writes : Side → Side
+with_failing_writes side = record side { writes_fail = true }
 
 abbrev pub with_close : Side → Side
 with_close side = record side { is_open = false }

@@ -1,5 +1,5 @@
 //! Laws of scripts and of what plays them.
-ghost use Rattle.lt_script.specs.Laws.{LaterPlays, LaterGrows, GivenIsRead, NoneLeft, OneScript};
+ghost use Rattle.lt_script.specs.Laws.{LaterPlays, LaterGrows, GivenIsRead, CalmNeverFails, NoneLeft, OneScript, PrintedIsRead};
 
 /// What comes later than a net that was just loaded has a trace that its script plays.
 pub fn what_is_later_is_played()
@@ -16,6 +16,11 @@ pub fn what_is_given_is_read()
     ensures { GivenIsRead }
 {}
 
+/// Where no line is `rfail` or `wfail`, no read and no write fails.
+pub fn no_failing_line_is_no_failure()
+    ensures { CalmNeverFails }
+{}
+
 /// Where no event is left, no step is.
 pub fn no_event_is_no_step()
     ensures { NoneLeft }
@@ -24,4 +29,9 @@ pub fn no_event_is_no_step()
 /// A text spells one script.
 pub fn a_text_spells_one_script()
     ensures { OneScript }
+{}
+
+/// What is printed of a script that a text spells is a text that spells it, and no text that does is shorter.
+pub fn what_is_printed_is_read()
+    ensures { PrintedIsRead }
 {}

@@ -2,11 +2,11 @@
 ghost use Rattle.std.specs.Prelude.{◌≡◌};
 ghost use Rattle.lt_world.specs.Memory.{is_path};
 ghost use Rattle.lt_script.specs.Gives.{Gives};
-ghost use Rattle.lt_script.specs.Lines.{ended, accept_of, data_of, end_of, take_of, file_of, fill_of, line_of};
+ghost use Rattle.lt_script.specs.Lines.{ended, accept_of, data_of, pour_of, end_of, ready_of, read_fail_of, take_of, write_fail_of, file_of, fill_of, dir_of, plain_of, line_of};
 
 use crate::fields::{LineError, address_at, after, name_at, number_at};
 use crate::quoting::text_at;
-use crate::script::{MOST_COUNT, MOST_FILL, MOST_TAKE, MOST_TIME, ScriptFile, Step};
+use crate::script::{MOST_COUNT, MOST_FILL, MOST_POUR, MOST_TAKE, MOST_TIME, ScriptFile, Step};
 use std::alloc::Global;
 
 /// What a line says.
@@ -26,17 +26,8 @@ pub fn line_of(alloc: Global, line: &[u8]) -> Result<Line, LineError>
     if let Some(_) = after(b"#", line) {
         return Ok(Line::Skip);
     }
-    if let Some(rest) = after(b"accept ", line) {
-        return accept_of(rest).ok_or(LineError::Bad);
-    }
     if let Some(rest) = after(b"data ", line) {
         return data_of(alloc, rest);
-    }
-    if let Some(rest) = after(b"end ", line) {
-        return end_of(rest).ok_or(LineError::Bad);
-    }
-    if let Some(rest) = after(b"take ", line) {
-        return take_of(rest).ok_or(LineError::Bad);
     }
     if let Some(rest) = after(b"file \"", line) {
         return file_of(alloc, rest);
@@ -44,7 +35,42 @@ pub fn line_of(alloc: Global, line: &[u8]) -> Result<Line, LineError>
     if let Some(rest) = after(b"fill \"", line) {
         return fill_of(alloc, rest);
     }
-    ended(line, Line::Skip).ok_or(LineError::Bad)
+    if let Some(rest) = after(b"dir \"", line) {
+        return dir_of(alloc, rest);
+    }
+    plain_of(line).ok_or(LineError::Bad)
+}
+
+// A line without a text between quotes, which takes no memory.
+#[tactic(auto, unfolding(crate::specs::Lines::plain_of))]
+fn plain_of(line: &[u8]) -> Option<Line>
+    ensures { result ≡ plain_of line.now }
+{
+    if let Some(rest) = after(b"accept ", line) {
+        return accept_of(rest);
+    }
+    if let Some(rest) = after(b"pour ", line) {
+        return pour_of(rest);
+    }
+    if let Some(rest) = after(b"end ", line) {
+        return end_of(rest);
+    }
+    if let Some(rest) = after(b"ready ", line) {
+        return ready_of(rest);
+    }
+    if let Some(rest) = after(b"rfail ", line) {
+        return read_fail_of(rest);
+    }
+    if let Some(rest) = after(b"take ", line) {
+        return take_of(rest);
+    }
+    if let Some(rest) = after(b"wfail ", line) {
+        return write_fail_of(rest);
+    }
+    if let Some(rest) = after(b"idle", line) {
+        return ended(rest, Line::Step(Step::Idle));
+    }
+    ended(line, Line::Skip)
 }
 
 // This line, if nothing follows.
@@ -90,12 +116,48 @@ fn data_of(alloc: Global, bytes: &[u8]) -> Result<Line, LineError>
     ended(rest, Line::Step(Step::Bytes { link, bytes })).ok_or(LineError::Bad)
 }
 
+#[tactic(auto, unfolding(crate::specs::Lines::pour_of))]
+fn pour_of(bytes: &[u8]) -> Option<Line>
+    ensures { result ≡ pour_of bytes.now }
+{
+    let (link, rest) = name_at(bytes)?;
+    let rest = after(b" ", rest)?;
+    let (size, rest) = number_at(1, MOST_POUR, rest)?;
+    let step = Step::Pour {
+        link,
+        size: size as u32,
+    };
+    ended(rest, Line::Step(step))
+}
+
 #[tactic(auto, unfolding(crate::specs::Lines::end_of))]
 fn end_of(bytes: &[u8]) -> Option<Line>
     ensures { result ≡ end_of bytes.now }
 {
     let (link, rest) = name_at(bytes)?;
     ended(rest, Line::Step(Step::End { link }))
+}
+
+#[tactic(auto, unfolding(crate::specs::Lines::ready_of))]
+fn ready_of(bytes: &[u8]) -> Option<Line>
+    ensures { result ≡ ready_of bytes.now }
+{
+    let (link, rest) = name_at(bytes)?;
+    let rest = after(b" ", rest)?;
+    let (count, rest) = number_at(1, MOST_COUNT, rest)?;
+    let step = Step::Ready {
+        link,
+        count: count as u32,
+    };
+    ended(rest, Line::Step(step))
+}
+
+#[tactic(auto, unfolding(crate::specs::Lines::read_fail_of))]
+fn read_fail_of(bytes: &[u8]) -> Option<Line>
+    ensures { result ≡ read_fail_of bytes.now }
+{
+    let (link, rest) = name_at(bytes)?;
+    ended(rest, Line::Step(Step::ReadFail { link }))
 }
 
 #[tactic(auto, unfolding(crate::specs::Lines::take_of))]
@@ -113,6 +175,14 @@ fn take_of(bytes: &[u8]) -> Option<Line>
         count: count as u32,
     };
     ended(rest, Line::Step(step))
+}
+
+#[tactic(auto, unfolding(crate::specs::Lines::write_fail_of))]
+fn write_fail_of(bytes: &[u8]) -> Option<Line>
+    ensures { result ≡ write_fail_of bytes.now }
+{
+    let (link, rest) = name_at(bytes)?;
+    ended(rest, Line::Step(Step::WriteFail { link }))
 }
 
 #[tactic(auto, unfolding(crate::specs::Lines::file_of))]
@@ -157,4 +227,15 @@ fn fill_of(alloc: Global, bytes: &[u8]) -> Result<Line, LineError>
         return Err(LineError::Bad);
     }
     ended(rest, Line::File(ScriptFile::Fill { path, time, size })).ok_or(LineError::Bad)
+}
+
+#[tactic(auto, unfolding(crate::specs::Lines::dir_of))]
+fn dir_of(alloc: Global, bytes: &[u8]) -> Result<Line, LineError>
+    ensures { Gives (λ x. x) result (dir_of bytes.now) }
+{
+    let (path, rest) = text_at(alloc, bytes)?;
+    if !is_path(path.bytes()) {
+        return Err(LineError::Bad);
+    }
+    ended(rest, Line::File(ScriptFile::Dir { path })).ok_or(LineError::Bad)
 }

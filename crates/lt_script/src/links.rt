@@ -1,9 +1,9 @@
 //! The links of a net, and all that was told of them, the newest last. A note is short: the bytes that
 //! were read or taken stand with their link.
 ghost use Rattle.std.specs.Prelude.{◌≡◌, ◌+◌, ◌<◌, ◌≤◌, ◌∷◌, [], ◌++◌, length, get_or, false, None, OnOk, OnErr, IfOk};
-ghost use Rattle.lt_world.specs.Trace.{own, names, link_bound, Accepted as accepted, Readable as readable, Writable as writable, Connect as connect, Close as closed};
+ghost use Rattle.lt_world.specs.Trace.{own, names, link_bound, Accepted as accepted, Readable as readable, Writable as writable, Failed as failed, Writing as writing, Connect as connect, Close as closed};
 ghost use Rattle.lt_world.specs.Answers.{read_act, GotWithin};
-ghost use Rattle.lt_script.specs.Sides.{side_at, gives, with_bytes, with_end, with_close, with_read, fresh_side};
+ghost use Rattle.lt_script.specs.Sides.{side_at, gives, with_bytes, with_end, with_failing_reads, with_failing_writes, with_close, with_read, fresh_side};
 ghost use Rattle.lt_script.specs.Steps.{change};
 ghost use Rattle.lt_script.specs.Calls.{some_taken};
 ghost use Rattle.lt_script.specs.Views.{output_of, ending_of};
@@ -11,7 +11,9 @@ ghost use Rattle.lt_script.specs.Told.{no_links, Tells, Stays};
 
 use crate::notes::{Done, Note, read_done, write_done};
 use crate::port::Port;
-use crate::ports::{close_at, end_at, give_at, read_at, reserve_at, take_at};
+use crate::ports::{
+    close_at, end_at, fail_reads_at, fail_writes_at, give_at, read_at, reserve_at, take_at,
+};
 use lt_bytes::NoMemory;
 use lt_world::{Address, Ending, Got, Link, Owner};
 use std::alloc::Global;
@@ -61,6 +63,16 @@ impl Links {
         match self.ports.get(link) {
             None => false,
             Some(port) => port.is_open(),
+        }
+    }
+
+    /// Whether each write to a link fails.
+    pub fn writes_fail(&self, link: usize) -> bool
+        ensures { result ≡ (side_at link self.now.sides).writes_fail }
+    {
+        match self.ports.get(link) {
+            None => false,
+            Some(port) => port.writes_fail(),
         }
     }
 
@@ -142,6 +154,44 @@ impl Links {
         });
     }
 
+    /// The script says again that a link is readable.
+    pub fn ready(&mut self, link: u32)
+        requires known { link < length self.old.sides }
+        requires calls { 0 < self.old.calls }
+        ensures { Tells link readable self.old.sides 0 self.old self.new }
+    {
+        self.notes.push_reserved(Note {
+            link,
+            done: Done::Readable,
+        });
+    }
+
+    /// The script lets each later read of a link fail.
+    pub fn fail_reads(&mut self, link: u32)
+        requires known { link < length self.old.sides }
+        requires calls { 0 < self.old.calls }
+        ensures { Tells link readable (change link with_failing_reads self.old.sides) 0 self.old self.new }
+    {
+        fail_reads_at(&mut self.ports, link as usize);
+        self.notes.push_reserved(Note {
+            link,
+            done: Done::Readable,
+        });
+    }
+
+    /// The script lets each later write to a link fail.
+    pub fn fail_writes(&mut self, link: u32)
+        requires known { link < length self.old.sides }
+        requires calls { 0 < self.old.calls }
+        ensures { Tells link writable (change link with_failing_writes self.old.sides) 0 self.old self.new }
+    {
+        fail_writes_at(&mut self.ports, link as usize);
+        self.notes.push_reserved(Note {
+            link,
+            done: Done::Writable,
+        });
+    }
+
     /// The script lets a link take so many bytes, which take no memory then.
     pub fn let_take(&mut self, link: u32, room: usize) -> Result<(), NoMemory>
         requires known { link < length self.old.sides }
@@ -189,6 +239,18 @@ impl Links {
         self.notes.push_reserved(Note {
             link,
             done: write_done(bytes.len(), at, n),
+        });
+    }
+
+    /// A write to a link fails.
+    pub fn fail_write(&mut self, link: u32)
+        requires known { link < length self.old.sides }
+        requires calls { 0 < self.old.calls }
+        ensures { Tells link (failed writing) self.old.sides 0 self.old self.new }
+    {
+        self.notes.push_reserved(Note {
+            link,
+            done: Done::WriteFailed,
         });
     }
 

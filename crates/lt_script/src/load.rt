@@ -1,8 +1,9 @@
-//! A script is put where it plays: its files into memory, its steps into a net.
+//! A script is put where it plays: its files and directories into memory, its steps into a net.
 ghost use Rattle.std.specs.Prelude.{◌≡◌, true, OnOk, IfOk};
 ghost use Rattle.lt_world.specs.Memory.{tree_of, is_path};
-ghost use Rattle.lt_script.specs.Loads.{letters, path_of, with_file, planted, AreRooted};
+ghost use Rattle.lt_script.specs.Loads.{path_of, with_file, planted, AreRooted};
 
+use crate::letters::letters;
 use crate::script::{ScriptFile, Step};
 use lt_bytes::{List, NoMemory, Text};
 use lt_world::MemFiles;
@@ -33,20 +34,8 @@ fn plant_one(alloc: Global, file: &ScriptFile, files: &mut MemFiles) -> Result<(
             let bytes = letters(alloc, *size as usize)?;
             files.add_file(path.bytes(), *time, &bytes)
         }
+        ScriptFile::Dir { path } => files.add_dir(path.bytes()),
     }
-}
-
-// The letters from `a` to `z`, again and again.
-fn letters(alloc: Global, size: usize) -> Result<Vec<u8>, NoMemory>
-    ensures { IfOk result (λ bytes. bytes.items ≡ letters size) }
-{
-    let Ok(mut bytes) = Vec::with_capacity(alloc, size) else {
-        return Err(NoMemory);
-    };
-    for i in 0..size {
-        bytes.push_reserved(b'a' + (i % 26) as u8);
-    }
-    Ok(bytes)
 }
 
 /// A copy of steps.
@@ -72,11 +61,22 @@ fn copy_step(alloc: Global, step: &Step) -> Result<Step, NoMemory>
             let bytes = Text::from_bytes(alloc, bytes.bytes())?;
             Ok(Step::Bytes { link: *link, bytes })
         }
+        Step::Pour { link, size } => Ok(Step::Pour {
+            link: *link,
+            size: *size,
+        }),
         Step::End { link } => Ok(Step::End { link: *link }),
+        Step::Ready { link, count } => Ok(Step::Ready {
+            link: *link,
+            count: *count,
+        }),
+        Step::ReadFail { link } => Ok(Step::ReadFail { link: *link }),
         Step::Take { link, size, count } => Ok(Step::Take {
             link: *link,
             size: *size,
             count: *count,
         }),
+        Step::WriteFail { link } => Ok(Step::WriteFail { link: *link }),
+        Step::Idle => Ok(Step::Idle),
     }
 }

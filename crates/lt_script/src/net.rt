@@ -3,7 +3,7 @@ ghost use Rattle.std.specs.Prelude.{◌≡◌, ℕ, ◌+◌, ◌<◌, ◌≤◌,
 ghost use Rattle.lt_world.specs.Trace.{said, names, Close as closed};
 ghost use Rattle.lt_world.specs.Answers.{event_tells, kind_of, IsFresh, IsNumbered, OnEvent, UsesEvent, read_act, write_act, dial_act, GotWithin, TookWithin, IsFreshDial, IsNumberedDial};
 ghost use Rattle.lt_world.specs.Causes.{Rose, GotCause, TookCause, DialCause};
-ghost use Rattle.lt_script.specs.Calls.{after, Reads, Writes, Connects, Closes, Turns};
+ghost use Rattle.lt_script.specs.Calls.{after, counted, Reads, Writes, Connects, Closes, Turns};
 ghost use Rattle.lt_script.specs.Steps.{events_left};
 ghost use Rattle.lt_script.specs.Playing.{unplayed, IsLater};
 ghost use Rattle.lt_script.specs.Texts.{Spells};
@@ -152,6 +152,18 @@ fn kind(event: Event) -> NextKind
     }
 }
 
+// The count of failed calls after a read.
+fn count_read(got: Got, faults: u64) -> u64
+    ensures count { (buf : List ℕ) → result ≡ counted (read_act got buf) faults }
+    ensures cause { GotCause got faults result }
+    ensures more { faults ≤ result }
+{
+    match got {
+        Got::Failed => faults.saturating_add(1),
+        _ => faults,
+    }
+}
+
 impl Net for ScriptNet {
     ghost use Rattle.lt_script.specs.Playing.{Playing};
     ghost use Rattle.lt_script.specs.Later.{IsLater-same, IsLater-more};
@@ -215,9 +227,11 @@ impl Net for ScriptNet {
         ensures room { self.old.room ≤ self.new.room + length buf.new }
         ensures later { IsLater self.old self.new }
         ensures plays { self.new.game ≡ after (Reads link.0 (length buf.old)) self.old.game }
-        ensures kept { self.new.faults ≡ self.old.faults }
+        ensures count { self.new.faults ≡ counted (read_act result buf.new) self.old.faults }
     {
-        self.links.read(link.0, buf)
+        let got = self.links.read(link.0, buf);
+        self.faults = count_read(got, self.faults);
+        got
     }
 
     fn write(&mut self, link: Link, bytes: &[u8]) -> Took
@@ -236,8 +250,13 @@ impl Net for ScriptNet {
         ensures room { self.old.room ≤ self.new.room + length bytes.now }
         ensures later { IsLater self.old self.new }
         ensures plays { self.new.game ≡ after (Writes link.0 bytes.now) self.old.game }
-        ensures kept { self.new.faults ≡ self.old.faults }
+        ensures count { self.new.faults ≡ counted (write_act result bytes.now) self.old.faults }
     {
+        if self.links.writes_fail(link.0 as usize) {
+            self.links.fail_write(link.0);
+            self.faults = self.faults.saturating_add(1);
+            return Took::Failed;
+        }
         let n = allowed(self.taker, link.0, bytes.len());
         self.links.write(link.0, bytes, n);
         self.room -= n;
@@ -262,6 +281,7 @@ impl Net for ScriptNet {
         ensures room { self.old.room ≤ self.new.room }
         ensures later { IsLater self.old self.new }
         ensures plays { self.new.game ≡ after (Connects owner to) self.old.game }
+        ensures count { self.new.faults ≡ counted (dial_act result owner to) self.old.faults }
     {
         self.faults = self.faults.saturating_add(1);
         self.links.fail_connect(owner, to);

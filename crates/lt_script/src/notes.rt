@@ -25,6 +25,7 @@ pub enum Done {
         len: usize,
     },
     WriteNotYet,
+    WriteFailed,
     Connect(Owner, Address),
     Close(Ending),
 }

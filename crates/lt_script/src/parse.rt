@@ -1,7 +1,8 @@
 //! The text of a script.
-ghost use Rattle.std.specs.Prelude.{◌≡◌, ◌+◌, ◌<◌, ◌≤◌, ◌↔◌, ℕ, length, option_map, IfSome, OnOk, IfOk, IfErr};
+ghost use Rattle.std.specs.Prelude.{◌≡◌, ◌+◌, ◌<◌, ◌≤◌, ◌↔◌, ℕ, List, length, option_map, IfSome, OnOk, IfOk, IfErr};
 ghost use Rattle.lt_script.specs.Scripts.{cut, GivesScript, GivesRest, added, is_head};
 ghost use Rattle.lt_script.specs.Texts.{Spells, IsBadLine, OnLineError, IsRead, IsRefusedAt};
+ghost use Rattle.lt_script.specs.Printing.{printed};
 ghost use Rattle.lt_script.specs.declared.script.Script.{Script};
 
 use crate::fields::{LineError, after};
@@ -15,6 +16,9 @@ pub fn parse_script(alloc: Global, bytes: &[u8]) -> Result<Script, ScriptError>
     // A script comes only for a text that spells it, and for each such text it comes.
     ensures spelled { IfOk result (λ script. Spells bytes.now script) }
     ensures read { (script : Script) → length bytes.now ≤ MOST_BYTES → Spells bytes.now script → IsRead result script }
+
+    // What was printed of a script that came from some text gives it again.
+    ensures again { (text : List ℕ) (script : Script) → length text ≤ MOST_BYTES → Spells text script → bytes.now ≡ printed script → IsRead result script }
 
     // A line is named only where it is the first outside the grammar, and then it is named.
     ensures line { IfErr result (λ e. OnLineError e (IsBadLine bytes.now)) }

@@ -12,6 +12,8 @@ pub struct Port {
     given: Vec<u8>,
     seen: usize,
     ended: bool,
+    reads_fail: bool,
+    writes_fail: bool,
     taken: Vec<u8>,
     ending: Option<Ending>,
 }
@@ -30,7 +32,7 @@ impl Model for Port {
 
 impl Port {
     ghost use Rattle.lt_script.specs.Kept.{Kept, fresh_kept};
-    ghost use Rattle.lt_script.specs.Sides.{gives, with_bytes, with_end, with_close, with_read};
+    ghost use Rattle.lt_script.specs.Sides.{gives, with_bytes, with_end, with_failing_reads, with_failing_writes, with_close, with_read};
 
     /// A link that arrives.
     pub fn new(alloc: Global) -> Port
@@ -40,6 +42,8 @@ impl Port {
             given: Vec::new(alloc),
             seen: 0,
             ended: false,
+            reads_fail: false,
+            writes_fail: false,
             taken: Vec::new(alloc),
             ending: None,
         }
@@ -49,6 +53,13 @@ impl Port {
         ensures { result ≡ self.now.side.is_open }
     {
         self.ending.is_none()
+    }
+
+    /// Whether each write fails.
+    pub fn writes_fail(&self) -> bool
+        ensures { result ≡ self.now.side.writes_fail }
+    {
+        self.writes_fail
     }
 
     /// How many bytes were read.
@@ -91,6 +102,20 @@ impl Port {
         self.ended = true;
     }
 
+    /// Each later read fails.
+    pub fn fail_reads(&mut self)
+        ensures { self.new ≡ record self.old { side = with_failing_reads self.old.side } }
+    {
+        self.reads_fail = true;
+    }
+
+    /// Each later write fails.
+    pub fn fail_writes(&mut self)
+        ensures { self.new ≡ record self.old { side = with_failing_writes self.old.side } }
+    {
+        self.writes_fail = true;
+    }
+
     pub fn close(&mut self, ending: Ending)
         ensures { self.new ≡ record self.old { side = with_close self.old.side; ending = Some ending } }
     {
@@ -119,13 +144,16 @@ impl Port {
         let _ = self.taken.extend_from_slice(bytes);
     }
 
-    /// Gives what can be read, up to the buffer, else the end, else nothing yet.
+    /// Gives what can be read, up to the buffer, else the end, else nothing yet. Where reads fail, none of it.
     pub fn read(&mut self, buf: &mut [u8]) -> Got
         requires { 0 < length buf.old }
         ensures act { read_act result buf.new ≡ gives (length buf.old) self.old.side }
         ensures rest { self.new ≡ record self.old { side = with_read (length buf.old) self.old.side } }
         ensures within { GotWithin result (length buf.new) }
     {
+        if self.reads_fail {
+            return Got::Failed;
+        }
         let n = (self.given.len() - self.seen).min(buf.len());
         if n == 0 {
             return if self.ended { Got::End } else { Got::NotYet };

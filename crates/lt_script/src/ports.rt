@@ -2,7 +2,7 @@
 ghost use Rattle.std.specs.Prelude.{◌≡◌, ◌<◌, ◌≤◌, ◌+◌, ◌++◌, length, set, OnOk, OnErr, Some};
 ghost use Rattle.lt_world.specs.Answers.{read_act, GotWithin};
 ghost use Rattle.lt_script.specs.Kept.{Kept, kept_at};
-ghost use Rattle.lt_script.specs.Sides.{gives, with_bytes, with_end, with_close, with_read};
+ghost use Rattle.lt_script.specs.Sides.{gives, with_bytes, with_end, with_failing_reads, with_failing_writes, with_close, with_read};
 
 use crate::port::Port;
 use lt_bytes::NoMemory;
@@ -23,6 +23,22 @@ pub fn end_at(ports: &mut Vec<Port>, link: usize)
 {
     let port = &mut ports[link];
     port.end();
+}
+
+pub fn fail_reads_at(ports: &mut Vec<Port>, link: usize)
+    requires { link < length ports.old.items }
+    ensures { ports.new.items ≡ set ports.old.items link (record (kept_at link ports.old.items) { side = with_failing_reads (kept_at link ports.old.items).side }) }
+{
+    let port = &mut ports[link];
+    port.fail_reads();
+}
+
+pub fn fail_writes_at(ports: &mut Vec<Port>, link: usize)
+    requires { link < length ports.old.items }
+    ensures { ports.new.items ≡ set ports.old.items link (record (kept_at link ports.old.items) { side = with_failing_writes (kept_at link ports.old.items).side }) }
+{
+    let port = &mut ports[link];
+    port.fail_writes();
 }
 
 pub fn close_at(ports: &mut Vec<Port>, link: usize, ending: Ending)

@@ -15,6 +15,9 @@ pub const MOST_TIME: u64 = 253_402_300_799;
 /// The longest file that a `fill` line makes, in bytes.
 pub const MOST_FILL: u64 = 16_777_216;
 
+/// The most bytes that a `pour` line gives.
+pub const MOST_POUR: u64 = 8_388_608;
+
 /// The most bytes that one `take` lets a write take.
 pub const MOST_TAKE: u64 = 65_536;
 
@@ -28,13 +31,15 @@ pub struct Script {
     pub steps: List<Step>,
 }
 
-/// A file that is there during the whole run.
+/// A file or a directory that is there during the whole run.
 #[derive(Debug, Drop)]
 pub enum ScriptFile {
     /// `file "PATH" TIME "BYTES"`.
     Bytes { path: Text, time: u64, bytes: Text },
     /// `fill "PATH" TIME SIZE`: the letters `a` to `z` again and again.
     Fill { path: Text, time: u64, size: u64 },
+    /// `dir "PATH"`: a directory.
+    Dir { path: Text },
 }
 
 /// A link as a script names it: `c0` is the first client that arrives, `c1` the second.
@@ -53,10 +58,20 @@ pub enum Step {
     Accept { peer: Address, local: Address },
     /// `data LINK "BYTES"`: the link can read these bytes too.
     Bytes { link: Name, bytes: Text },
+    /// `pour LINK SIZE`: the link can read so many letters too, `a` to `z` again and again.
+    Pour { link: Name, size: u32 },
     /// `end LINK`: after what can be read the link has ended.
     End { link: Name },
+    /// `ready LINK COUNT`: the link is readable this often.
+    Ready { link: Name, count: u32 },
+    /// `rfail LINK`: each later read fails, whatever could still be read.
+    ReadFail { link: Name },
     /// `take LINK SIZE COUNT`: the link is writable this often, and a write takes at most `size` bytes.
     Take { link: Name, size: u32, count: u32 },
+    /// `wfail LINK`: each later write fails.
+    WriteFail { link: Name },
+    /// `idle`: nothing is ready.
+    Idle,
 }
 
 /// Why a text gives no script.

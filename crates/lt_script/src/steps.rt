@@ -4,6 +4,7 @@ ghost use Rattle.lt_script.specs.declared.script.Step.{Step};
 ghost use Rattle.lt_script.specs.Steps.{link_of, is_open_at, is_due, skip, event_of, taker_of, count_of, rest_of, lowered, less, allowed};
 ghost use Rattle.lt_script.specs.Told.{Stays, Steps};
 
+use crate::letters::letters;
 use crate::links::Links;
 use crate::script::{Name, Step};
 use lt_bytes::NoMemory;
@@ -53,12 +54,17 @@ fn is_due(step: &Step, links: &Links) -> bool
     match step {
         Step::Accept { peer: _, local: _ } => true,
         Step::Bytes { link, bytes: _ } => is_open_at(*link, links),
+        Step::Pour { link, size: _ } => is_open_at(*link, links),
         Step::End { link } => is_open_at(*link, links),
+        Step::Ready { link, count: _ } => is_open_at(*link, links),
+        Step::ReadFail { link } => is_open_at(*link, links),
         Step::Take {
             link,
             size: _,
             count: _,
         } => is_open_at(*link, links),
+        Step::WriteFail { link } => is_open_at(*link, links),
+        Step::Idle => true,
     }
 }
 
@@ -111,9 +117,25 @@ pub fn affect(alloc: Global, step: &Step, links: &mut Links) -> Result<Event, No
             links.give(link, bytes.bytes())?;
             Ok(Event::Readable(Link(link)))
         }
+        Step::Pour { link, size } => {
+            let link = link_at(*link, links);
+            let bytes = letters(alloc, *size as usize)?;
+            links.give(link, &bytes)?;
+            Ok(Event::Readable(Link(link)))
+        }
         Step::End { link } => {
             let link = link_at(*link, links);
             links.end(link);
+            Ok(Event::Readable(Link(link)))
+        }
+        Step::Ready { link, count: _ } => {
+            let link = link_at(*link, links);
+            links.ready(link);
+            Ok(Event::Readable(Link(link)))
+        }
+        Step::ReadFail { link } => {
+            let link = link_at(*link, links);
+            links.fail_reads(link);
             Ok(Event::Readable(Link(link)))
         }
         Step::Take {
@@ -125,6 +147,12 @@ pub fn affect(alloc: Global, step: &Step, links: &mut Links) -> Result<Event, No
             links.let_take(link, ROOM)?;
             Ok(Event::Writable(Link(link)))
         }
+        Step::WriteFail { link } => {
+            let link = link_at(*link, links);
+            links.fail_writes(link);
+            Ok(Event::Writable(Link(link)))
+        }
+        Step::Idle => Ok(Event::Idle),
     }
 }
 
@@ -147,6 +175,7 @@ fn count(step: &Step) -> u32
     ensures { result ≡ count_of step.now }
 {
     match step {
+        Step::Ready { link: _, count } => *count,
         Step::Take {
             link: _,
             size: _,

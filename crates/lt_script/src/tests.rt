@@ -1,7 +1,7 @@
 // Each call once with ample memory, and what a reader of the grammar would ask.
 ghost use Rattle.std.specs.Prelude.{◌<◌, ◌≤◌, length};
 
-use crate::{Name, ScriptError, ScriptFile, ScriptNet, Step, parse_script, report};
+use crate::{Name, ScriptError, ScriptFile, ScriptNet, Step, parse_script, print_script, report};
 use lt_bytes::{NoMemory, Text};
 use lt_world::{
     Address, Dialled, Ending, Event, Files, Found, Got, Link, MemFiles, MemSink, Net, Owner, Took,
@@ -45,6 +45,10 @@ fn the_first_line_outside_the_grammar_is_named(rt: HostRuntime) -> Result<(), Fa
         (b"\n\n# any \xff byte\n#\n".as_slice(), 0),
         (b"end c0\nend c1000000\n", 0),
         (b"take c0 0 1\ntake c0 65536 4096\n", 0),
+        (b"pour c0 1\npour c1000000 8388608\n", 0),
+        (b"ready c0 1\nready c0 4096\n", 0),
+        (b"rfail c0\nwfail c0\nidle\n", 0),
+        (b"dir \"/a\"\ndir \"/a/\\xff\"\n", 0),
         (b"data c0 \"\"\ndata c0 \" ~\\r\\n\\\"\\\\\\x41\\xff\"\n", 0),
         (b"accept 0.0.0.0:0 255.255.255.255:65535\n", 0),
         (
@@ -66,6 +70,15 @@ fn the_first_line_outside_the_grammar_is_named(rt: HostRuntime) -> Result<(), Fa
         (b"take c0 1 0\n", 2),
         (b"take c0 1 4097\n", 2),
         (b"take c0 18446744073709551616 1\n", 2),
+        (b"pour c0 0\n", 2),
+        (b"pour c0 8388609\n", 2),
+        (b"ready c0 0\n", 2),
+        (b"ready c0 4097\n", 2),
+        (b"rfail g0\n", 2),
+        (b"wfail\n", 2),
+        (b"idle c0\n", 2),
+        (b"dir \"/a/\"\n", 2),
+        (b"dir \"/a\" 0\n", 2),
         (b"data c0 \"\\x4A\"\n", 2),
         (b"data c0 \"\t\"\n", 2),
         (b"data c0 \"a\n", 2),
@@ -129,6 +142,21 @@ fn a_script_has_what_its_lines_say(rt: HostRuntime) -> Result<(), Fail> {
     Ok(())
 }
 
+#[test]
+fn a_script_is_printed_with_its_files_first(rt: HostRuntime) -> Result<(), Fail> {
+    let alloc = rt.alloc();
+    let written =
+        b"lighttpd-script 1\n# c\nidle\nfile \"/\\x61\" 5 \"\\x00\\r\\n\\\"\\\\ ~\\xff\"\naccept 10.0.0.5:40000 127.0.0.1:80\ndata c0 \"\\x41\\x7f\\x0d\"\n\nfill \"/b\" 0 7\npour c0 8388608\nend c0\nready c0 4096\nrfail c0\ntake c1000000 0 1\nwfail c0\ndir \"/d/\\xc3\"\n";
+    let expected =
+        b"lighttpd-script 1\nfile \"/a\" 5 \"\\x00\\r\\n\\\"\\\\ ~\\xff\"\nfill \"/b\" 0 7\ndir \"/d/\\xc3\"\nidle\naccept 10.0.0.5:40000 127.0.0.1:80\ndata c0 \"A\\x7f\\r\"\npour c0 8388608\nend c0\nready c0 4096\nrfail c0\ntake c1000000 0 1\nwfail c0\n";
+    let script = parse_script(alloc, written)?;
+    let printed = print_script(alloc, &script)?;
+    assert_eq!(rt; printed.bytes(), expected.as_slice());
+    let again = parse_script(alloc, printed.bytes())?;
+    assert_eq!(rt; print_script(alloc, &again)?.bytes(), expected.as_slice());
+    Ok(())
+}
+
 // A net that plays these lines, which are in the grammar.
 fn loaded(alloc: Global, lines: &[u8], files: &mut MemFiles) -> Result<ScriptNet, ScriptError> {
     let mut net = ScriptNet::new(alloc);
@@ -159,7 +187,7 @@ fn offer(alloc: Global, net: &mut ScriptNet, link: Link, log: &mut Text) -> Resu
             }
         }
         Took::NotYet => log.push_all(format!(in alloc; "c{} takes none\n", link.0)?.as_bytes())?,
-        Took::Failed => log.push_all(b"failed\n")?,
+        Took::Failed => log.push_all(format!(in alloc; "c{} fails to take\n", link.0)?.as_bytes())?,
     }
     Ok(())
 }
@@ -182,7 +210,7 @@ fn read(alloc: Global, net: &mut ScriptNet, link: Link, log: &mut Text) -> Resul
             net.close(link, Ending::Clean);
         }
         Got::NotYet => log.push_all(format!(in alloc; "c{} has none\n", link.0)?.as_bytes())?,
-        Got::Failed => log.push_all(b"failed\n")?,
+        Got::Failed => log.push_all(format!(in alloc; "c{} fails to read\n", link.0)?.as_bytes())?,
     }
     Ok(())
 }
@@ -240,6 +268,23 @@ fn a_script_is_played_line_by_line(rt: HostRuntime) -> Result<(), Fail> {
             b"c0 takes none\nc1 takes none\nc1 takes 3\nc1 takes 3\nc0 takes none\nc0 takes 5\nc1 takes 1\n",
             b"c0 open 5 \"ab\\\"\\x00z\"\nc1 client-fault 7 \"ab\\\"ab\\\"a\"\n",
         ),
+        // Letters are poured, and a link is ready until it is closed.
+        (
+            b"ready c0 2\naccept 1.1.1.1:1 2.2.2.2:2\npour c0 10\nready c0 2\nend c0\nready c0 9\nidle\n",
+            b"c0 takes none\nc0 reads abcdefgh\nc0 reads ij\nc0 has none\nc0 ends\nidle\n",
+            b"c0 clean 0 \"\"\n",
+        ),
+        // From `rfail` on nothing is read, from `wfail` on nothing is taken.
+        (
+            b"accept 1.1.1.1:1 2.2.2.2:2\ndata c0 \"a\"\ndata c0 \"b\"\nrfail c0\nready c0 1\ntake c0 5 1\nwfail c0\ntake c0 5 1\n",
+            b"c0 takes none\nc0 reads a\nc0 reads b\nc0 fails to read\nc0 fails to read\nc0 takes 5\nc0 fails to take\nc0 fails to take\n",
+            b"c0 open 5 \"ab\\\"\\x00z\"\n",
+        ),
+        (
+            b"accept 1.1.1.1:1 2.2.2.2:2\npour c0 20\nrfail c0\n",
+            b"c0 takes none\nc0 reads abcdefgh\nc0 fails to read\n",
+            b"c0 open 0 \"\"\n",
+        ),
     ] {
         let mut log = Text::new(alloc);
         let mut sink = MemSink::new(alloc, 1_000)?;
@@ -283,13 +328,16 @@ fn a_connect_fails(rt: HostRuntime) -> Result<(), Fail> {
 #[test]
 fn the_files_of_a_script_are_there(rt: HostRuntime) -> Result<(), Fail> {
     let mut files = MemFiles::new(rt.alloc());
-    let lines = b"file \"/srv/a\" 7 \"hello\"\nfill \"/srv/b\" 8 30\nfill \"/srv/a\" 9 3\n";
+    let lines =
+        b"file \"/srv/a\" 7 \"hello\"\nfill \"/srv/b\" 8 30\nfill \"/srv/a\" 9 3\ndir \"/home/d\"\n";
     let _net = loaded(rt.alloc(), lines, &mut files)?;
     for (path, found) in [
         (b"/srv".as_slice(), Found::Directory),
         (b"/srv/a", Found::File { size: 3, time: 9 }),
         (b"/srv/b", Found::File { size: 30, time: 8 }),
         (b"/srv/c", Found::Missing),
+        (b"/home", Found::Directory),
+        (b"/home/d", Found::Directory),
     ] {
         assert_eq!(rt; files.find(OWNER, path), found, "{path:?}");
     }

@@ -5,7 +5,7 @@ use Rattle.lt_script.specs.Kept.{Kept, kept_at}
 use Rattle.lt_world.specs.Trace.{own}
 use Rattle.lt_script.specs.Notes.{trace_of}
 use Rattle.lt_script.specs.Sides.{with_end}
-use Rattle.lt_script.proofs.Becoming.{kept_there, keeps_set, given_end, stays}
+use Rattle.lt_script.proofs.Becoming.{kept_there, keeps_set, side_readable, stays}
 use Rattle.lt_script.proofs.Telling.{tells_set}
 use Rattle.lt_script.proofs.links.Links.end.Goals as goal
 
@@ -14,7 +14,7 @@ invariant_of-self c =
     let now : Inside = record { ports = c.end_at.new.ports; notes = c.push_reserved.new.self } in
     let kept : Kept = kept_at c.args.link c.self.inside.ports.items in
     keeps_set c.self.inside now c.args.link done.Readable (record kept { side = with_end kept.side }) c.self.invariant (kept_there c.self.inside _ c.args.link c.self.view_is c.requires.known)
-    c.end_at.ensures c.push_reserved.ensures.items (given_end kept (own c.args.link (trace_of c.self.inside.ports.items c.self.inside.notes.items)) (c.self.invariant.taken c.args.link) (c.self.invariant.ending c.args.link))
+    c.end_at.ensures c.push_reserved.ensures.items (side_readable kept (with_end kept.side) (own c.args.link (trace_of c.self.inside.ports.items c.self.inside.notes.items)) refl (c.self.invariant.taken c.args.link) (c.self.invariant.ending c.args.link))
 
 pub returns : goal.returns
 returns c =

@@ -1,6 +1,6 @@
 use Rattle.std.proofs.Common.{◌≡◌, ◌≤◌, vec_len, vec_capacity}
-use Rattle.lt_script.specs.Loads.{letters}
-use Rattle.lt_script.proofs.load.letters.Given as goal
+use Rattle.lt_script.specs.Letters.{letters}
+use Rattle.lt_script.proofs.letters.letters.Given as goal
 
 abbrev pub invariant-loop-i : goal.invariant-loop-i
 invariant-loop-i l = record {

@@ -1,0 +1,7 @@
+-- The bytes of a line that gives only their number.
+use Rattle.std.specs.Prelude.{ℕ, zero, suc, ◌+◌, ◌%◌, List, [], ◌∷◌, ◌++◌}
+
+-- the letters from `a` to `z`, again and again
+abbrev pub letters : ℕ → List ℕ
+letters zero = []
+letters (suc n) = letters n ++ (97 + n % 26) ∷ []
