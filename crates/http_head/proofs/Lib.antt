@@ -9,3 +9,4 @@ pub mod PortLemmas
 pub mod HeadLemmas
 pub mod EndLemmas
 pub mod FramingLemmas
+pub mod OptionLemmas
