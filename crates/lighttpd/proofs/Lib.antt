@@ -2,3 +2,4 @@ mod OfflineLemmas
 mod RootLemmas
 mod WordsLemmas
 mod RunLemmas
+mod CalmLemmas

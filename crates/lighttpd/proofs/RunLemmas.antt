@@ -10,7 +10,7 @@ use Rattle.server_model.specs.Client.{ending_of, stream, IsServedRight}
 use Rattle.server_model.specs.Held.{Held, Serving, kept_at}
 use Rattle.server_model.specs.Serves.{Serves}
 use Rattle.server_model.proofs.Settled.{stands_right}
-use Rattle.server_model.proofs.Faults.{run_faults}
+use Rattle.server_model.proofs.Endings.{run_ends, cause_stays}
 use Rattle.lt_world.specs.Causes.{Rose}
 use Rattle.server_core.specs.Table.{freed, all_freed}
 use Rattle.lighttpd.specs.Runs.{ServesRight, RunsDue, Served, told_as}
@@ -75,7 +75,7 @@ undue root tree = record {
 -- the same of a run that was not begun
 pub unserved : (root : List ℕ) (tree : Tree) (calls : List Call) (trace : List Entry) → calls ≡ [] → trace ≡ [] → Served root tree calls trace
 unserved root tree calls trace uncalled untold =
-    let none_called : Served root tree [] [] = record { right = unserved_right root tree; due = undue root tree; unfaulted = λ link is. absurd (cc (is)) } in
+    let none_called : Served root tree [] [] = record { right = unserved_right root tree; due = undue root tree; caused = λ link e is. absurd (cc (is)) } in
     subst (λ (c : List Call). Served root tree c trace) (sym uncalled) (subst (λ (t : List Entry). Served root tree [] t) (sym untold) none_called)
 
 -- the same root and tree under other names
@@ -103,8 +103,8 @@ serves_all disk start server root tree calls faults now_faults failed now_failed
     calls_are = calls_are;
     calm = calm;
   };
-  unfaulted = λ link is. elim (run_faults root (told_as start faults failed old) (told_as disk now_faults now_failed trace) run link is) [
+  caused = λ link e is. elim (run_ends root (told_as start faults failed old) (told_as disk now_faults now_failed trace) run link e is) [
     | inl was ↦ absurd (cc (ap (λ (t : List Entry). ending_of (ours (own link t))) untold, was))
-    | inr rose ↦ absurd (unrisen faults now_faults unfailed (calm ∙ unfailed) rose)
+    | inr cause ↦ cause_stays e (own link trace) (own link trace) (Rose faults now_faults) ⊥ (λ failed. failed) (unrisen faults now_faults unfailed (calm ∙ unfailed)) cause
   ];
 }

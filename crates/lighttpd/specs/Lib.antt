@@ -1,4 +1,5 @@
 pub mod Calls
+pub mod Endings
 pub mod Exits
 pub mod Offline
 pub mod Printing

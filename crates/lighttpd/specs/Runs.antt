@@ -2,7 +2,7 @@
 use Rattle.std.specs.Prelude.{◌≡◌, ℕ, List, [], Option, Some}
 use Rattle.lt_world.specs.declared.net.NextKind.{NextKind}
 use Rattle.lt_world.specs.declared.net.NextKind.TheVariants as kind
-use Rattle.lt_world.specs.declared.net.Ending.TheVariants as ending
+use Rattle.lt_world.specs.declared.net.Ending.{Ending}
 use Rattle.lt_world.specs.declared.net.Owner.{Owner}
 use Rattle.lt_world.specs.declared.files.Call.{Call}
 use Rattle.lt_world.specs.Disk.{Disk, Tree, own_calls}
@@ -10,6 +10,7 @@ use Rattle.lt_world.specs.Trace.{Entry}
 use Rattle.server_model.specs.Client.{ending_of, IsServedRight}
 use Rattle.server_model.specs.Deeds.{own, ours}
 use Rattle.server_model.specs.Runs.{Told, IsRun}
+use Rattle.server_model.specs.Causes.{IsCause}
 use Rattle.lighttpd.specs.declared.run.Finish.{Finish}
 use Rattle.lighttpd.specs.declared.run.Finish.TheVariants as finish
 
@@ -40,8 +41,8 @@ pub record RunsDue (root : List ℕ) (tree : Tree) (calls : List Call) (trace : 
   -- no call on the files failed
   pub calm : final.seen.faults ≡ first.seen.faults
 
--- what a run from a fresh server over a fresh net keeps for its clients; none is closed for a file's fault
+-- what a run from a fresh server over a fresh net keeps for its clients; each is closed for a cause, and none for a file's fault
 pub record Served (root : List ℕ) (tree : Tree) (calls : List Call) (trace : List Entry) : Type 0 where
   pub right : ServesRight root tree calls trace
   pub due : RunsDue root tree calls trace
-  pub unfaulted : (link : ℕ) → ending_of (ours (own link trace)) ≡ Some ending.FileFault → ⊥
+  pub caused : (link : ℕ) (e : Ending) → ending_of (ours (own link trace)) ≡ Some e → IsCause e (ours (own link trace)) ⊥

@@ -59,4 +59,8 @@ fn answer(rt: &HostRuntime, words: &[String]) -> Status {
 }
 
 #[cfg(test)]
+mod body_tests;
+#[cfg(test)]
+mod serving_tests;
+#[cfg(test)]
 mod tests;

@@ -7,6 +7,7 @@ ghost use Rattle.lt_script.specs.Loads.{planted};
 ghost use Rattle.lt_script.specs.Playing.{unplayed, IsLater};
 ghost use Rattle.lt_script.specs.Steps.{events_left};
 ghost use Rattle.lt_script.specs.Plays.{Plays};
+ghost use Rattle.lt_script.specs.Failing.{IsCalm};
 ghost use Rattle.lt_script.specs.Reports.{report_of};
 ghost use Rattle.lt_script.specs.declared.script.Script.{Script};
 ghost use Rattle.lt_script.specs.declared.script.Step.{Step};
@@ -15,6 +16,7 @@ ghost use Rattle.conf_parse.specs.Print.{printed};
 ghost use Rattle.server_model.specs.Files.{IsTable, Backs};
 ghost use Rattle.server_model.specs.Serves.{Serves};
 ghost use Rattle.lighttpd.specs.Runs.{FinishFits, Served};
+ghost use Rattle.lighttpd.specs.Endings.{AllEndCalmly};
 ghost use Rattle.lighttpd.specs.Words.{Line, SpellsLine, Replay as replay_line, Print as print_line};
 ghost use Rattle.lighttpd.specs.Reading.{HasRoot, HasScript};
 ghost use Rattle.lighttpd.specs.Printing.{HasTree};
@@ -63,6 +65,11 @@ pub fn offline<X: Texts, S: Sink>(
         → HasRoot (X.texts texts.old conf) root → HasScript (X.texts texts.old script) said
         → Served root (planted said.files (tree_of no_files)) files.new.calls net.new.game.trace }
 
+    // Where no line makes a read or a write fail, each client that was closed was closed clean, as one too many or for
+    // want of memory.
+    ensures calm { X.tells → (conf script : List ℕ) (said : Script) → SpellsLine (map string_bytes words.now) (replay_line conf script)
+        → HasScript (X.texts texts.old script) said → IsCalm said.steps → AllEndCalmly net.new.game.trace }
+
     // A replay plays the whole script, and reports what the net told.
     ensures plays { X.tells → (conf script : List ℕ) (said : Script) → SpellsLine (map string_bytes words.now) (replay_line conf script)
         → HasScript (X.texts texts.old script) said → result ≡ Status.Done → Plays said.steps net.new.game.trace [] }
@@ -102,6 +109,7 @@ fn replay<X: Texts, S: Sink>(
     ensures complete { X.tells → (root : List ℕ) (said : Script) → HasRoot (X.texts texts.old conf.now) root → HasScript (X.texts texts.old script.now) said → IsComplete result }
     ensures serves { X.tells → (root : List ℕ) (said : Script) → HasRoot (X.texts texts.old conf.now) root → HasScript (X.texts texts.old script.now) said
         → Served root (planted said.files (tree_of no_files)) files.new.calls net.new.game.trace }
+    ensures calm { X.tells → (said : Script) → HasScript (X.texts texts.old script.now) said → IsCalm said.steps → AllEndCalmly net.new.game.trace }
     ensures plays { X.tells → (said : Script) → HasScript (X.texts texts.old script.now) said → result ≡ Status.Done → Plays said.steps net.new.game.trace [] }
     ensures report { S.tells → SinkSays result (report_of net.new.game.trace) (S.bytes sink.old) (S.bytes sink.new) }
 {
@@ -131,6 +139,7 @@ fn play<S: Sink>(server: Server, net: &mut ScriptNet, files: &mut MemFiles, sink
     requires serves { (disk : Disk) → disk.calls ≡ [] → ((file : ℕ) → disk.table file ≡ None) → Serves disk server [] }
     ensures serves { Served server.root (tree_of files.old) files.new.calls net.new.game.trace }
     ensures ends { PlaySays result net.new.last }
+    ensures calm { (steps : List Step) → net.old ≡ unplayed steps → IsCalm steps → AllEndCalmly net.new.game.trace }
     ensures plays { (steps : List Step) → net.old ≡ unplayed steps → result ≡ Status.Done → Plays steps net.new.game.trace [] }
     ensures report { S.tells → SinkSays result (report_of net.new.game.trace) (S.bytes sink.old) (S.bytes sink.new) }
     ensures cause { result ≡ Status.SinkFault → Rose (S.faults sink.old) (S.faults sink.new) }

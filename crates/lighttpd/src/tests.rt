@@ -1,16 +1,16 @@
-// Worked runs of the program: words and texts in, status and output out.
+// Worked calls of the program: words and texts in, status and output out.
 use crate::offline::offline;
 use crate::status::{ConfFault, ConfKind, Status};
-use lt_bytes::{Text, decimal, quoted};
+use lt_bytes::Text;
 use lt_script::ScriptNet;
 use lt_world::{MemFiles, MemSink, MemTexts};
 use std::alloc::Global;
 use std::process::Abort;
 use std::test::Fail;
 
-const ROOT: &[u8] = b"server.document-root = \"/srv\"\n";
+pub(crate) const ROOT: &[u8] = b"server.document-root = \"/srv\"\n";
 
-const REPLAY: &str = "replay -f CONF SCRIPT";
+pub(crate) const REPLAY: &str = "replay -f CONF SCRIPT";
 
 const EMPTY: &[u8] = b"lighttpd-script 1\n";
 
@@ -18,24 +18,15 @@ const USAGE: &[u8] =
     b"usage: lighttpd [-D] [-t | -p] -f CONF | replay -f CONF SCRIPT | bench NUMBER";
 
 // The files of the worked runs, and the first client.
-const START: &[u8] = b"lighttpd-script 1
+pub(crate) const START: &[u8] = b"lighttpd-script 1
 file \"/srv/a.txt\" 0 \"hello\"
 fill \"/srv/index.html\" 0 300
 file \"/srv/d/x\" 0 \"x\"
 accept 10.0.0.5:40000 127.0.0.1:80
 ";
 
-const HELLO: &[u8] =
-    b"c0 clean 120 \"HTTP/1.1 200 OK\\r\\nContent-Type: application/octet-stream\\r\\nContent-Length: 5\\r\\nConnection: close\\r\\nServer: lighttpd\\r\\n\\r\\nhello\"\n";
-
-const NOT_FOUND: &[u8] =
-    b"c0 clean 123 \"HTTP/1.1 404 Not Found\\r\\nContent-Type: text/plain\\r\\nContent-Length: 14\\r\\nConnection: close\\r\\nServer: lighttpd\\r\\n\\r\\n404 Not Found\\n\"\n";
-
-const NOT_IMPLEMENTED: &[u8] =
-    b"c0 clean 135 \"HTTP/1.1 501 Not Implemented\\r\\nContent-Type: text/plain\\r\\nContent-Length: 20\\r\\nConnection: close\\r\\nServer: lighttpd\\r\\n\\r\\n501 Not Implemented\\n\"\n";
-
 // The status and the output of a call, where CONF and SCRIPT name these texts.
-fn call(
+pub(crate) fn call(
     alloc: Global,
     words: &str,
     conf: &[u8],
@@ -54,16 +45,6 @@ fn call(
     let mut sink = MemSink::new(alloc, room)?;
     let status = offline(alloc, &all, &mut texts, &mut net, &mut files, &mut sink);
     Ok((status, Text::from_bytes(alloc, sink.bytes())?))
-}
-
-// The lines, after the worked runs' beginning, are replayed to this report.
-fn expect_report(rt: &impl Abort, alloc: Global, lines: &[u8], report: &[u8]) -> Result<(), Fail> {
-    let mut script = Text::from_bytes(alloc, START)?;
-    script.push_all(lines)?;
-    let (status, output) = call(alloc, REPLAY, ROOT, script.bytes(), 4096)?;
-    assert_eq!(rt; status, Status::Done);
-    assert_eq!(rt; output.bytes(), report);
-    Ok(())
 }
 
 // The call writes nothing, and answers this status with this text.
@@ -89,96 +70,6 @@ fn conf_fault(kind: ConfKind, line: u32) -> Status {
         file: 0,
         line,
     })
-}
-
-#[test]
-fn one_request_gets_its_reply_however_the_writes_are_cut(rt: HostRuntime) -> Result<(), Fail> {
-    let alloc = rt.alloc();
-    expect_report(
-        &rt,
-        alloc,
-        b"data c0 \"GET /a.txt HTTP/1.1\\r\\nHost: h\\r\\n\\r\\n\"\ntake c0 4096 9\nend c0\n",
-        HELLO,
-    )?;
-    expect_report(
-        &rt,
-        alloc,
-        b"data c0 \"GET /a.txt HTTP/1.1\\r\\nHost: h\\r\\n\\r\\n\"\ntake c0 1 120\nend c0\n",
-        HELLO,
-    )?;
-    expect_report(
-        &rt,
-        alloc,
-        b"data c0 \"GET /no HTTP/1.1\\r\\nHost: h\\r\\n\\r\\n\"\ntake c0 4096 9\nend c0\n",
-        NOT_FOUND,
-    )?;
-    expect_report(
-        &rt,
-        alloc,
-        b"data c0 \"GET /d HTTP/1.1\\r\\nHost: h\\r\\n\\r\\n\"\ntake c0 4096 9\nend c0\n",
-        NOT_FOUND,
-    )?;
-    expect_report(
-        &rt,
-        alloc,
-        b"data c0 \"PUT /a.txt HTTP/1.1\\r\\n\\r\\n\"\ntake c0 4096 9\nend c0\n",
-        NOT_IMPLEMENTED,
-    )?;
-    expect_report(
-        &rt,
-        alloc,
-        b"data c0 \"GET /../a HTTP/1.1\\r\\n\\r\\n\"\ntake c0 4096 9\nend c0\n",
-        NOT_IMPLEMENTED,
-    )?;
-    expect_report(&rt, alloc, b"end c0\n", b"c0 clean 0 \"\"\n")?;
-    expect_report(
-        &rt,
-        alloc,
-        b"data c0 \"GET /a.txt HTTP/1.1\\r\\n\"\ntake c0 4096 9\n",
-        b"c0 open 0 \"\"\n",
-    )
-}
-
-// The lines of three clients, each of which sends its request a byte at a time.
-fn three_clients(alloc: Global) -> Result<Text, Fail> {
-    let requests: [&[u8]; 3] = [
-        b"GET /a.txt HTTP/1.1\r\n\r\n",
-        b"GET /no HTTP/1.1\r\n\r\n",
-        b"GET /d/x HTTP/1.1\r\n\r\n",
-    ];
-    let mut lines = Text::from_bytes(
-        alloc,
-        b"accept 10.0.0.6:40001 127.0.0.1:80\naccept 10.0.0.7:40002 127.0.0.1:80\n",
-    )?;
-    for at in 0..23 {
-        for client in 0..3 {
-            if let Some(byte) = requests[client].get(at) {
-                lines.push_all(b"data c")?;
-                lines.push_all(decimal(client as u64).bytes())?;
-                lines.push_all(b" \"")?;
-                lines.push_all(quoted(*byte).bytes())?;
-                lines.push_all(b"\"\n")?;
-            }
-        }
-    }
-    for _ in 0..130 {
-        lines.push_all(b"take c0 1 1\ntake c1 1 1\ntake c2 1 1\n")?;
-    }
-    Ok(lines)
-}
-
-#[test]
-fn three_clients_byte_by_byte_get_their_own_answers(rt: HostRuntime) -> Result<(), Fail> {
-    let alloc = rt.alloc();
-    let lines = three_clients(alloc)?;
-    let mut report = Text::from_bytes(alloc, HELLO)?;
-    report.push_all(
-        b"c1 clean 123 \"HTTP/1.1 404 Not Found\\r\\nContent-Type: text/plain\\r\\nContent-Length: 14\\r\\nConnection: close\\r\\nServer: lighttpd\\r\\n\\r\\n404 Not Found\\n\"\n",
-    )?;
-    report.push_all(
-        b"c2 clean 116 \"HTTP/1.1 200 OK\\r\\nContent-Type: application/octet-stream\\r\\nContent-Length: 1\\r\\nConnection: close\\r\\nServer: lighttpd\\r\\n\\r\\nx\"\n",
-    )?;
-    expect_report(&rt, alloc, lines.bytes(), report.bytes())
 }
 
 #[test]

@@ -8,7 +8,7 @@ use Rattle.lt_world.proofs.Disks.{released_own, released_other}
 use Rattle.server_model.specs.Held.{Held, kept_at}
 use Rattle.server_model.specs.Files.{file_of, Drops}
 use Rattle.server_model.proofs.Tables.{kept_at-first, kept_at-past}
-use Rattle.server_core.specs.Connection.{Connected}
+use Rattle.connection.specs.Connection.{Connected}
 use Rattle.server_core.specs.Table.{helds, held_count, freed, all_freed}
 use Rattle.server_core.proofs.Listed.{helds_append, count_append}
 
@@ -28,8 +28,11 @@ module _ (old rest : List Connected) (x : Connected) (is : old ≡ rest ++ x ∷
       ∙ ap (λ t. all_freed t a) (sym (ap helds is ∙ helds_append rest (x ∷ [])))
       ∙ had
 
-  pub popped_count : (store next : PoolState) (numbers : List ℕ) → numbers ≡ x.numbers → Kept store numbers next [] → HeldWithin store (held_count old) → HeldWithin next (held_count rest)
-  popped_count store next numbers same kept within = omega (arith, kept.total, kept.rises, within, ap length same, ap held_count is, count_append rest (x ∷ []))
+  pub popped_within : (store : PoolState) → HeldWithin store (held_count old) → HeldWithin store (length x.numbers)
+  popped_within store within = omega (arith, within, ap held_count is, count_append rest (x ∷ []))
+
+  pub popped_count : (store next : PoolState) → Kept store x.numbers next [] → HeldWithin store (held_count old) → HeldWithin next (held_count rest)
+  popped_count store next kept within = omega (arith, kept.total, kept.rises, within, ap held_count is, count_append rest (x ∷ []))
 
 -- a file that isn't open stays so
 freed_none : (file : Option ℕ) (disk : Disk) (f : ℕ) → disk.table f ≡ None → (freed file disk).table f ≡ None

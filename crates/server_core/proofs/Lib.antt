@@ -1,7 +1,5 @@
-pub mod Connections
-pub mod Heads
 pub mod Planning
-pub mod RequestLines
+pub mod Advancing
 mod Settling
 pub mod Stepped
 pub mod Listed

@@ -5,11 +5,11 @@ use Rattle.std.proofs.lemmas.List.{drop_more, set_split, take-set, drop-set-lt, 
 use Rattle.buffer_pool.specs.State.{PoolState}
 use Rattle.buffer_pool.specs.Kept.{Kept, HeldWithin}
 use Rattle.server_model.specs.Held.{Held, kept_at, IsEachOnce, IsPlace}
-use Rattle.server_model.specs.Serves.{IsWaiting}
 use Rattle.server_model.proofs.Tables.{kept_at-first, kept_at-past}
 use Rattle.server_model.proofs.Changing.{Changes, IsAt, at_is, replaces, removes, place_at}
-use Rattle.server_core.specs.Connection.{Connected}
-use Rattle.server_core.specs.Table.{helds, held_count, AllAbove, Rising, AllWaiting, IsKept}
+use Rattle.connection.specs.Connection.{Connected}
+use Rattle.server_core.specs.Steps.{IsResting}
+use Rattle.server_core.specs.Table.{helds, held_count, AllAbove, Rising, AllResting, IsKept}
 
 pub helds_append : (xs ys : List Connected) → helds (xs ++ ys) ≡ helds xs ++ helds ys
 helds_append xs ys = map-append (λ (c : Connected). c.held) xs ys
@@ -64,21 +64,21 @@ rising_push links (x ∷ table) new below le rising = (above_push x.link table n
     rest : (l : ℕ) → links ≤ l → kept_at l table ≡ None
     rest l past = sym (kept_at-past l x table (λ e. omega (arith, e, here, past))) ∙ below l past
 
-waiting_replace : (xs : List Held) (old new : Held) (ys : List Held) → IsWaiting new.stage new.input → AllWaiting (xs ++ old ∷ ys) → AllWaiting (xs ++ new ∷ ys)
-waiting_replace [] old new ys is waiting = (is, waiting.1)
-waiting_replace (x ∷ xs) old new ys is waiting = (waiting.0, waiting_replace xs old new ys is waiting.1)
+resting_replace : (xs : List Held) (old new : Held) (ys : List Held) → IsResting new → AllResting (xs ++ old ∷ ys) → AllResting (xs ++ new ∷ ys)
+resting_replace [] old new ys is resting = (is, resting.1)
+resting_replace (x ∷ xs) old new ys is resting = (resting.0, resting_replace xs old new ys is resting.1)
 
-waiting_remove : (xs : List Held) (old : Held) (ys : List Held) → AllWaiting (xs ++ old ∷ ys) → AllWaiting (xs ++ ys)
-waiting_remove [] old ys waiting = waiting.1
-waiting_remove (x ∷ xs) old ys waiting = (waiting.0, waiting_remove xs old ys waiting.1)
+resting_remove : (xs : List Held) (old : Held) (ys : List Held) → AllResting (xs ++ old ∷ ys) → AllResting (xs ++ ys)
+resting_remove [] old ys resting = resting.1
+resting_remove (x ∷ xs) old ys resting = (resting.0, resting_remove xs old ys resting.1)
 
-waiting_here : (xs : List Held) (old : Held) (ys : List Held) → AllWaiting (xs ++ old ∷ ys) → IsWaiting old.stage old.input
-waiting_here [] old ys waiting = waiting.0
-waiting_here (x ∷ xs) old ys waiting = waiting_here xs old ys waiting.1
+resting_here : (xs : List Held) (old : Held) (ys : List Held) → AllResting (xs ++ old ∷ ys) → IsResting old
+resting_here [] old ys resting = resting.0
+resting_here (x ∷ xs) old ys resting = resting_here xs old ys resting.1
 
-pub waiting_push : (table : List Held) (new : Held) → IsWaiting new.stage new.input → AllWaiting table → AllWaiting (table ++ new ∷ [])
-waiting_push [] new is waiting = (is, tt)
-waiting_push (x ∷ table) new is waiting = (waiting.0, waiting_push table new is waiting.1)
+pub resting_push : (table : List Held) (new : Held) → IsResting new → AllResting table → AllResting (table ++ new ∷ [])
+resting_push [] new is resting = (is, tt)
+resting_push (x ∷ table) new is resting = (resting.0, resting_push table new is resting.1)
 
 -- the client at a place
 module _ (link : ℕ) (conns : List Connected) (i : ℕ) (c : Connected) (place : IsPlace link (helds conns) (Some i)) (is : c ≡ get_or conns i c) where
@@ -138,25 +138,25 @@ module _ (link : ℕ) (conns : List Connected) (i : ℕ) (c : Connected) (place 
     pub place_within : HeldWithin store (length c.numbers)
     place_within = omega (arith, k.counted, count_is)
 
-    pub place_waiting : IsWaiting c.held.stage c.held.input
-    place_waiting = waiting_here (helds xs) c.held (helds ys) (subst AllWaiting table_split k.waiting)
+    pub place_resting : IsResting c.held
+    place_resting = resting_here (helds xs) c.held (helds ys) (subst AllResting table_split k.resting)
 
     module _ (new : Connected) (next_store : PoolState) (kept : Kept store c.numbers next_store new.numbers) where
       pub closing_within : HeldWithin next_store (length new.numbers)
       closing_within = omega (arith, k.counted, count_is, kept.total, kept.rises)
 
-      pub place_set_kept : new.held.link ≡ c.held.link → IsWaiting new.held.stage new.held.input → IsKept next_store (set conns i new)
-      place_set_kept same waits = record {
+      pub place_set_kept : new.held.link ≡ c.held.link → IsResting new.held → IsKept next_store (set conns i new)
+      place_set_kept same rests = record {
         counted = omega (arith, k.counted, count_is, kept.total, kept.rises, ap held_count (set_is new), count_append xs (new ∷ ys));
         rising = subst Rising (sym (table_set new)) (rising_replace (helds xs) c.held new.held (helds ys) same (subst Rising table_split k.rising));
-        waiting = subst AllWaiting (sym (table_set new)) (waiting_replace (helds xs) c.held new.held (helds ys) waits (subst AllWaiting table_split k.waiting));
+        resting = subst AllResting (sym (table_set new)) (resting_replace (helds xs) c.held new.held (helds ys) rests (subst AllResting table_split k.resting));
       }
 
       pub place_removed_kept : (last : PoolState) → Kept next_store new.numbers last [] → (gone : Connected) (next : List Connected) → next ≡ take i (set conns i gone) ++ drop (i + 1) (set conns i gone) → IsKept last next
       place_removed_kept last closed gone next same = record {
         counted = omega (arith, k.counted, count_is, kept.total, kept.rises, closed.total, closed.rises, ap held_count (removed_is gone next same), count_append xs ys);
         rising = subst Rising (sym (table_removed gone next same)) (rising_remove (helds xs) c.held (helds ys) (subst Rising table_split k.rising));
-        waiting = subst AllWaiting (sym (table_removed gone next same)) (waiting_remove (helds xs) c.held (helds ys) (subst AllWaiting table_split k.waiting));
+        resting = subst AllResting (sym (table_removed gone next same)) (resting_remove (helds xs) c.held (helds ys) (subst AllResting table_split k.resting));
       }
 
 -- where no link is this one

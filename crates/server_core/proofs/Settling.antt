@@ -1,169 +1,308 @@
 -- How a request that is answered settles.
-use Rattle.std.proofs.Common.{◌≡◌, ℕ, List, [], ◌∷◌, ◌++◌, length, map, Bool, true, false, not, ◌&&◌, Option, Some, None, refl, sym, ◌∙◌, ap, subst, arith}
+use Rattle.std.proofs.Common.{◌≡◌, ◌≢◌, ℕ, zero, suc, ◌+◌, ◌<◌, List, [], ◌∷◌, ◌++◌, length, map, Bool, true, false, ◌&&◌, ◌||◌, Option, Some, None, if◌then◌else◌, refl, sym, ◌∙◌, ap, subst, append-nil, arith}
 use Rattle.lt_world.specs.declared.net.Ending.{Ending}
 use Rattle.lt_world.specs.declared.net.Ending.TheVariants as ending
 use Rattle.lt_world.specs.Disk.{Disk, Table, released}
-use Rattle.chunkqueue.specs.Items.{Item, Byte, bytes_of, range}
-use Rattle.server_model.specs.Request.{Unfinished, Refused, Complete, request_of}
-use Rattle.server_model.specs.Plan.{Outcome, Error, Content}
-use Rattle.server_model.specs.Reply.{error_bytes, file_head, reply_by}
-use Rattle.server_model.specs.Plan.{world_of}
-use Rattle.server_model.specs.Held.{Stage, Awaiting, Answering, Held}
-use Rattle.server_model.specs.Steps.{number_of, answered, has_no_items, is_done_at, is_read_at, wants_read}
-use Rattle.server_model.specs.Files.{AllFit, IsOpened, Fits, FileStep}
+use Rattle.lt_world.specs.Trace.{Act}
+use Rattle.chunkqueue.specs.Items.{Item, Byte, FileByte, Contents, empty, items_of, count_of, bytes_of, range}
+use Rattle.buffer_pool.specs.State.{PoolState}
+use Rattle.buffer_pool.specs.Kept.{Kept}
+use Rattle.buffer_pool.proofs.Keeping.{kept_both, kept_beside}
+use Rattle.chunkqueue.proofs.Ranges.{length-range}
+use Rattle.server_model.specs.Request.{Head, Complete, body_limit}
+use Rattle.server_model.specs.Plan.{Outcome, Error, Content, is_head, world_of}
+use Rattle.server_model.specs.Reply.{is_last_request, error_bytes, file_head, body_for, final_bytes}
+use Rattle.server_model.specs.Held.{Stage, Asking, Held}
+use Rattle.server_model.specs.Steps.{number_of, advanced, looks, accepted, answered, holding, has_no_items, is_done}
+use Rattle.server_model.specs.Files.{IsOpened, AllFit, Fits, FileStep}
 use Rattle.server_model.specs.Planning.{CallsFor, PlansTo, PlansError, PlansFile}
-use Rattle.server_model.specs.Serves.{IsWaiting}
+use Rattle.server_model.specs.Serves.{Matches}
 use Rattle.server_model.specs.Settling.{SettlesOn, SettlesTo}
 use Rattle.server_model.proofs.FileSteps.{same_files}
+use Rattle.server_model.proofs.Clients.{advanced_link, accepted_link}
 use Rattle.server_model.proofs.Planned.{memory_bytes, memory_fits, range_fits, file_reply, release_calls, release_plans}
-use Rattle.server_model.proofs.Standing.{and_true, matches_stands}
-use Rattle.server_model.proofs.SettleSteps.{settle_rests, settle_finishes, settle_yields, answer_by, refuse_by, plan_yields}
-use Rattle.server_core.specs.Connection.{reply_items}
+use Rattle.server_model.proofs.Standing.{matches_stands}
+use Rattle.server_model.proofs.SettleSteps.{settle_rests, settle_finishes, settle_yields, settle_more, advance_then, accepted_fits, accept_then, answer_by, refuse_by, decline_by, plan_yields}
+use Rattle.connection.specs.Connection.{head_at, EndsInFile}
+use Rattle.connection.specs.Stages.{stage_of, is_asking}
+use Rattle.connection.specs.declared.stage.Stage.TheVariants as next
+use Rattle.server_core.specs.declared.form.Form.{Form}
+use Rattle.server_core.specs.Form.{form_of, refused_form}
 use Rattle.server_core.specs.Planned.{Plans}
-use Rattle.server_core.specs.Steps.{GivenBy}
+use Rattle.server_core.specs.Steps.{is_idle, IsFree, IsAdvanced, IsResting, WaitsOn, GivenBy}
 use Rattle.server_core.specs.declared.plan.Planned.{Planned}
 use Rattle.server_core.specs.declared.plan.Planned.TheVariants as planned
-
-pub reads_at : (held : Held) → wants_read held ≡ true → is_read_at held.stage ≡ true
-reads_at held wants = (and_true (is_read_at held.stage) (not held.ended) wants).0
+use Rattle.server_core.proofs.Advancing.{IsRefused, Rests, free_freed, advanced_fits, step_settled, headed, asks_looks, accepted_idle, accepted_free, accepted_reads}
 
 -- bytes in memory fit any files
 pub all_memory : (table : Table) (file : Option ℕ) (bytes : List ℕ) → AllFit table file (map Byte bytes)
 all_memory table file [] = tt
 all_memory table file (b ∷ bytes) = all_memory table file bytes
 
-no_file : (table : Table) (file : Option ℕ) → file ≡ None → IsOpened table file
-no_file table file none = subst (IsOpened table) (sym none) tt
+-- items of a file fit behind what is in memory
+all_behind : (before after : Table) (file : Option ℕ) (owed items : List Item) → AllFit before None owed → AllFit after file items → AllFit after file (owed ++ items)
+all_behind before after file [] items here fit = fit
+all_behind before after file (Byte b ∷ owed) items here fit = all_behind before after file owed items here fit
+all_behind before after file (FileByte from at ∷ owed) items here fit = absurd (cc (here.0))
 
-nothing_owed : (table : Table) (file : Option ℕ) (items : List Item) → items ≡ [] → AllFit table file items
-nothing_owed table file items none = subst (AllFit table file) (sym none) tt
-
--- with no file, and nothing owed
-pub rest_fits : (table : Table) (held : Held) → held.file ≡ None → held.owed ≡ [] → Fits table held
-rest_fits table held none owed = record { is_open = no_file table held.file none; owed = nothing_owed table held.file held.owed owed }
-
-waits_at : (s : Stage) (input : List ℕ) → request_of input ≡ Unfinished → IsWaiting s input
-waits_at (Awaiting k) input is = is
-waits_at (Answering k last) input is = tt
-
-undone_at : (s : Stage) (ended none : Bool) → (is_read_at s && not ended) ≡ true → (none && is_done_at s ended) ≡ false
-undone_at (Awaiting k) true none wants = absurd (cc (wants))
-undone_at (Awaiting k) false true wants = refl
-undone_at (Awaiting k) false false wants = refl
-undone_at (Answering k last) ended none wants = absurd (cc (wants))
-
-undone_items : (items : List Item) → has_no_items items ≡ false → (has_no_items items && true) ≡ false
-undone_items items some = ap (λ (b : Bool). b && true) some
+some_behind : (xs ys : List Item) → has_no_items ys ≡ false → has_no_items (xs ++ ys) ≡ false
+some_behind [] ys some = some
+some_behind (x ∷ xs) ys some = refl
 
 some_append : (xs ys : List Item) → has_no_items xs ≡ false → has_no_items (xs ++ ys) ≡ false
 some_append [] ys some = absurd (cc (some))
 some_append (x ∷ xs) ys some = refl
 
-error_some : (status : ℕ) → has_no_items (map Byte (error_bytes status)) ≡ false
-error_some status = refl
+error_some : (minor status : ℕ) (last head_only : Bool) → has_no_items (map Byte (error_bytes minor status last head_only)) ≡ false
+error_some minor status last head_only = refl
 
-head_some : (size : ℕ) → has_no_items (map Byte (file_head size)) ≡ false
-head_some size = refl
+head_some : (minor size : ℕ) (last : Bool) → has_no_items (map Byte (file_head minor size last)) ≡ false
+head_some minor size last = refl
 
--- the reply to a file of no bytes
-empty_reply : (bytes : List ℕ) (size : ℕ) → length bytes ≡ size → size ≡ 0 → file_head size ≡ file_head (length bytes) ++ bytes
-empty_reply [] size len zero_is = ap file_head (sym len) ∙ sym (append_none (file_head 0))
-  where
-    append_none : (l : List ℕ) → l ++ [] ≡ l
-    append_none [] = refl
-    append_none (x ∷ l) = ap (λ m. x ∷ m) (append_none l)
-empty_reply (b ∷ bytes) size len zero_is = absurd (omega (arith, len, zero_is))
+-- items and a reply that is the last or not
+module _ (root : List ℕ) (held : Held) (tells : Type 0) (before after : Disk) (none : held.file ≡ None) (here : tells → Fits before.table held) where
+  answered_fits : (items : List Item) (file : Option ℕ) (last : Bool) → (tells → IsOpened after.table file) → (tells → AllFit after.table file items) → tells → Fits after.table (answered held items file last)
+  answered_fits items file last opened fit f = record {
+    is_open = opened f;
+    owed = all_behind before.table after.table file held.owed items (subst (λ (o : Option ℕ). AllFit before.table o held.owed) none (here f).owed) (fit f);
+  }
 
-module _ (root : List ℕ) (held : Held) (tells : Type 0) (before after : Disk) (path rest : List ℕ) (wants : wants_read held ≡ true) (none : held.file ≡ None) (request : request_of held.input ≡ Complete path rest) where
+  -- it is answered
+  gives_on : (items : List Item) (file : Option ℕ) (last : Bool) (new : Held) → new ≡ answered held items file last → has_no_items items ≡ false → (tells → FileStep held.link None file before after) → (tells → IsOpened after.table file) → (tells → AllFit after.table file items)
+      → (tells → (acts : List Act) → Matches before.table (world_of root before held.link) held acts → Matches after.table (world_of root after held.link) (answered held items file last) acts) → SettlesOn root held new tells before after
+  gives_on items file last new is some files opened fit matches =
+      let owes : has_no_items (held.owed ++ items) ≡ false = some_behind held.owed items some in
+      subst (λ (h : Held). SettlesOn root held h tells before after) (sym is) (record {
+        link = refl;
+        does = λ f. subst (λ (o : Option ℕ). FileStep held.link o file before after) (sym none) (files f);
+        fits = answered_fits items file last opened fit;
+        keeps = λ f acts m. matches_stands after.table (world_of root after held.link) (answered held items file last) acts (matches f acts m) owes (ap (λ (b : Bool). b && last) owes);
+      })
+
+module _ (root : List ℕ) (held : Held) (tells : Type 0) (before after : Disk) (head : Head) (content : List ℕ) (asking : held.stage ≡ Asking (number_of held.stage) (Complete head content)) (none : held.file ≡ None) (here : tells → Fits before.table held) where
+  abbrev last : Bool
+  last = is_last_request (number_of held.stage) head
+
   -- it is answered as is planned
-  answers_on : (items : List Item) (file : Option ℕ) (new : Held) → new ≡ answered held rest items file → has_no_items items ≡ false
+  answers_on : (items : List Item) (file : Option ℕ) (new : Held) → new ≡ answered held items file last → has_no_items items ≡ false
       → (tells → CallsFor root held.link (number_of held.stage) file before after)
-      → (tells → (o : Outcome) × PlansTo o root held.link (number_of held.stage) path before after × (bytes_of after.table items ≡ (reply_by o).bytes))
-      → (tells → Fits after.table (answered held rest items file)) → SettlesOn root held new tells before after
-  answers_on items file new is some calls plans fits = subst (λ (h : Held). SettlesOn root held h tells before after) (sym is) (record {
-    link = refl;
-    does = λ f. subst (λ (o : Option ℕ). FileStep held.link o file before after) (sym none) (calls f).files;
-    fits = fits;
-    keeps = λ f acts m. let p = plans f in matches_stands after.table (world_of root after held.link) (answered held rest items file) acts
-        (answer_by root held before after acts path rest file (reads_at held wants) request p.0 items (calls f) p.1 p.2 m) tt (undone_items items some);
-  })
+      → (tells → (o : Outcome) × PlansTo o root held.link (number_of held.stage) head before after × (bytes_of after.table items ≡ final_bytes head last o))
+      → (tells → IsOpened after.table file) → (tells → AllFit after.table file items) → SettlesOn root held new tells before after
+  answers_on items file new is some calls plans opened fit = gives_on root held tells before after none here items file last new is some (λ f. (calls f).files) opened fit
+      (λ f acts m. let p = plans f in answer_by root held before after acts head content file asking p.0 items (calls f) p.1 p.2 (here f) m)
 
-  gone : (file : Option ℕ) (new : Held) (e : Ending) → (e ≡ ending.NoMemory) × (new.link ≡ held.link) × (new.file ≡ file)
+  gone : (file : Option ℕ) (new : Held) (e : Ending) → (e ≡ ending.NoMemory) × (new ≡ holding held file)
       → (tells → CallsFor root held.link (number_of held.stage) file before after) → SettlesTo true root held new (Some e) tells before after
-  gone file new e is calls = subst (λ (x : Ending). SettlesTo true root held new (Some x) tells before after) (sym is.0) (plan_yields root held new tells before after path rest file (reads_at held wants) request is.1 none is.2 calls)
+  gone file new e is calls = subst (λ (x : Ending). SettlesTo true root held new (Some x) tells before after) (sym is.0)
+      (plan_yields root held new tells before after head content file asking (ap (λ (h : Held). h.link) is.1) none (ap (λ (h : Held). h.file) is.1) calls)
 
-  pub settles_error : (status : ℕ) (new : Held) (result : Option Ending) → GivenBy result held new rest (map Byte (error_bytes status)) None
-      → (tells → PlansError status root held.link (number_of held.stage) path before after) → SettlesTo true root held new result tells before after
-  settles_error status new None is plans = answers_on (map Byte (error_bytes status)) None new is (error_some status) (λ f. (plans f).calls)
-      (λ f. (Error status, (plans f).plans, memory_bytes after.table (error_bytes status))) (λ f. record { is_open = tt; owed = all_memory after.table None (error_bytes status) })
+  pub settles_error : (status : ℕ) (new : Held) (result : Option Ending) → GivenBy result held new (map Byte (error_bytes head.minor status last (is_head head.method))) None last
+      → (tells → PlansError status root held.link (number_of held.stage) head before after) → SettlesTo true root held new result tells before after
+  settles_error status new None is plans = answers_on (map Byte (error_bytes head.minor status last (is_head head.method))) None new is (error_some head.minor status last (is_head head.method)) (λ f. (plans f).calls)
+      (λ f. (Error status, (plans f).plans, memory_bytes after.table (error_bytes head.minor status last (is_head head.method))))
+      (λ f. tt) (λ f. all_memory after.table None (error_bytes head.minor status last (is_head head.method)))
   settles_error status new (Some e) is plans = gone None new e is (λ f. (plans f).calls)
 
-  file_is : (file size : ℕ) (p : PlansFile file size root held.link (number_of held.stage) path before after) → bytes_of after.table (map Byte (file_head size) ++ range file 0 size) ≡ file_head (length p.bytes) ++ p.bytes
-  file_is file size p = subst (λ (s : ℕ). bytes_of after.table (map Byte (file_head s) ++ range file 0 s) ≡ file_head (length p.bytes) ++ p.bytes) p.has_size (file_reply after.table file (file_head (length p.bytes)) p.bytes p.opened)
+  file_is : (file size : ℕ) (p : PlansFile file size root held.link (number_of held.stage) head before after) → is_head head.method ≡ false
+      → bytes_of after.table (map Byte (file_head head.minor size last) ++ range file 0 size) ≡ file_head head.minor (length p.bytes) last ++ body_for head.method p.bytes
+  file_is file size p get =
+      subst (λ (s : ℕ). bytes_of after.table (map Byte (file_head head.minor s last) ++ range file 0 s) ≡ file_head head.minor (length p.bytes) last ++ p.bytes) p.has_size
+      (file_reply after.table file (file_head head.minor (length p.bytes) last) p.bytes p.opened)
+      ∙ ap (λ (t : Bool). file_head head.minor (length p.bytes) last ++ (if t then [] else p.bytes)) (sym get)
 
-  pub settles_file : (file size : ℕ) (new : Held) (result : Option Ending) → GivenBy result held new rest (map Byte (file_head size) ++ range file 0 size) (Some file)
-      → (tells → PlansFile file size root held.link (number_of held.stage) path before after) → SettlesTo true root held new result tells before after
-  settles_file file size new None is plans = answers_on (map Byte (file_head size) ++ range file 0 size) (Some file) new is (some_append (map Byte (file_head size)) (range file 0 size) (head_some size)) (λ f. (plans f).calls)
-      (λ f. (Content (plans f).bytes, (plans f).plans, file_is file size (plans f)))
-      (λ f. let p = plans f in record {
-        is_open = (p.bytes, p.opened);
-        owed = memory_fits after.table (Some file) (file_head size) (range file 0 size) (range_fits after.table file p.bytes p.opened 0 size (omega (arith, p.has_size)));
-      })
-  settles_file file size new (Some e) is plans = gone (Some file) new e is (λ f. (plans f).calls)
+  pub settles_file : (file size : ℕ) (new : Held) (result : Option Ending) → is_head head.method ≡ false → GivenBy result held new (map Byte (file_head head.minor size last) ++ range file 0 size) (Some file) last
+      → (tells → PlansFile file size root held.link (number_of held.stage) head before after) → SettlesTo true root held new result tells before after
+  settles_file file size new None get is plans = answers_on (map Byte (file_head head.minor size last) ++ range file 0 size) (Some file) new is (some_append (map Byte (file_head head.minor size last)) (range file 0 size) (head_some head.minor size last)) (λ f. (plans f).calls)
+      (λ f. (Content (plans f).bytes, (plans f).plans, file_is file size (plans f) get))
+      (λ f. ((plans f).bytes, (plans f).opened))
+      (λ f. let p = plans f in memory_fits after.table (Some file) (file_head head.minor size last) (range file 0 size) (range_fits after.table file p.bytes p.opened 0 size (omega (arith, p.has_size))))
+  settles_file file size new (Some e) get is plans = gone (Some file) new e is (λ f. (plans f).calls)
 
-  -- a file of no bytes is given back at once
-  pub settles_empty : (file size : ℕ) (between : Disk) (new : Held) (result : Option Ending) → size ≡ 0 → GivenBy result held new rest (map Byte (file_head size)) None
-      → (tells → PlansFile file size root held.link (number_of held.stage) path before between) → (tells → after ≡ released file between) → SettlesTo true root held new result tells before after
-  settles_empty file size between new None empty is plans same = answers_on (map Byte (file_head size)) None new is (head_some size)
-      (λ f. release_calls root held.link (number_of held.stage) path file before between after (same f) (plans f).calls)
+  -- the reply to HEAD, or to a file of no bytes
+  bare_reply : (only none_is : Bool) (bytes : List ℕ) → (only || none_is) ≡ true → (none_is ≡ true → length bytes ≡ 0) → is_head head.method ≡ only → file_head head.minor (length bytes) last ≡ file_head head.minor (length bytes) last ++ body_for head.method bytes
+  bare_reply true none_is bytes bare nothing is = sym (append-nil (file_head head.minor (length bytes) last)) ∙ ap (λ (t : Bool). file_head head.minor (length bytes) last ++ (if t then [] else bytes)) (sym is)
+  bare_reply false true bytes bare nothing is = still bytes (nothing refl) ∙ ap (λ (t : Bool). file_head head.minor (length bytes) last ++ (if t then [] else bytes)) (sym is)
+    where
+      still : (b : List ℕ) → length b ≡ 0 → file_head head.minor (length b) last ≡ file_head head.minor (length b) last ++ b
+      still [] e = sym (append-nil (file_head head.minor 0 last))
+      still (x ∷ b) e = absurd (omega (arith, e))
+  bare_reply false false bytes bare nothing is = absurd (cc (bare))
+
+  -- a file of which no byte goes out is given back at once
+  pub settles_bare : (file size : ℕ) (between : Disk) (new : Held) (result : Option Ending) (none_is : Bool) → (is_head head.method || none_is) ≡ true → (none_is ≡ true → size ≡ 0) → GivenBy result held new (map Byte (file_head head.minor size last)) None last
+      → (tells → PlansFile file size root held.link (number_of held.stage) head before between) → (tells → after ≡ released file between) → SettlesTo true root held new result tells before after
+  settles_bare file size between new None none_is bare nothing is plans same = answers_on (map Byte (file_head head.minor size last)) None new is (head_some head.minor size last)
+      (λ f. release_calls root held.link (number_of held.stage) head file before between after (same f) (plans f).calls)
       (λ f. let p = plans f in (
         Content p.bytes,
-        release_plans root held.link (number_of held.stage) path file before between after (same f) (Content p.bytes) p.plans,
-        memory_bytes after.table (file_head size) ∙ empty_reply p.bytes size p.has_size empty,
+        release_plans root held.link (number_of held.stage) head file before between after (same f) (Content p.bytes) p.plans,
+        memory_bytes after.table (file_head head.minor size last) ∙ ap (λ (n : ℕ). file_head head.minor n last) (sym p.has_size)
+            ∙ bare_reply (is_head head.method) none_is p.bytes bare (λ e. p.has_size ∙ nothing e) refl,
       ))
-      (λ f. record { is_open = tt; owed = all_memory after.table None (file_head size) })
-  settles_empty file size between new (Some e) empty is plans same = gone None new e is (λ f. release_calls root held.link (number_of held.stage) path file before between after (same f) (plans f).calls)
+      (λ f. tt) (λ f. all_memory after.table None (file_head head.minor size last))
+  settles_bare file size between new (Some e) none_is bare nothing is plans same = gone None new e is (λ f. release_calls root held.link (number_of held.stage) head file before between after (same f) (plans f).calls)
 
-  -- memory is wanted for its head
-  pub settles_released : (file size : ℕ) (between : Disk) → (tells → PlansFile file size root held.link (number_of held.stage) path before between) → (tells → after ≡ released file between)
+  -- memory is wanted for its reply, and its file was given back
+  pub settles_released : (file size : ℕ) (between : Disk) → (tells → PlansFile file size root held.link (number_of held.stage) head before between) → (tells → after ≡ released file between)
       → SettlesTo true root held held (Some ending.NoMemory) tells before after
-  settles_released file size between plans same = gone None held ending.NoMemory (refl, refl, none) (λ f. release_calls root held.link (number_of held.stage) path file before between after (same f) (plans f).calls)
+  settles_released file size between plans same = plan_yields root held held tells before after head content None asking refl none none (λ f. release_calls root held.link (number_of held.stage) head file before between after (same f) (plans f).calls)
 
   -- memory is wanted for the plan itself
-  pub settles_unplanned : (tells → Plans planned.NoMemory root held.link (number_of held.stage) path before after) → SettlesTo true root held held (Some ending.NoMemory) tells before after
-  settles_unplanned calls = gone None held ending.NoMemory (refl, refl, none) calls
+  pub settles_unplanned : (tells → Plans planned.NoMemory root held.link (number_of held.stage) head before after) → SettlesTo true root held held (Some ending.NoMemory) tells before after
+  settles_unplanned calls = plan_yields root held held tells before after head content None asking refl none none calls
 
-module _ (root : List ℕ) (held : Held) (tells : Type 0) (disk : Disk) (wants : wants_read held ≡ true) (none : held.file ≡ None) where
-  -- no request is there yet
-  pub settles_rest : held.owed ≡ [] → request_of held.input ≡ Unfinished → SettlesTo true root held held None tells disk disk
-  settles_rest owed request = settle_rests root held tells disk (waits_at held.stage held.input request) (undone_at held.stage held.ended (has_no_items held.owed) wants) (λ f. rest_fits disk.table held none owed)
+-- no byte of a file goes out
+pub bare_only : (only : Bool) → only ≡ true → (only || false) ≡ true
+bare_only only is = ap (λ (t : Bool). t || false) is
 
-  -- a head that isn't served
-  pub settles_refused : (status : ℕ) (new : Held) (result : Option Ending) → request_of held.input ≡ Refused status → GivenBy result held new held.input (map Byte (error_bytes status)) None → SettlesTo true root held new result tells disk disk
-  settles_refused status new None request is = subst (λ (h : Held). SettlesOn root held h tells disk disk) (sym is) (record {
-    link = refl;
-    does = λ f. subst (λ (o : Option ℕ). FileStep held.link o None disk disk) (sym none) (same_files held.link disk None);
-    fits = λ f. record { is_open = tt; owed = all_memory disk.table None (error_bytes status) };
-    keeps = λ f acts m. matches_stands disk.table (world_of root disk held.link) (answered held held.input (map Byte (error_bytes status)) None) acts
-        (refuse_by root held disk acts status (map Byte (error_bytes status)) (reads_at held wants) request (memory_bytes disk.table (error_bytes status)) m) tt (undone_items (map Byte (error_bytes status)) (error_some status));
-  })
-  settles_refused status new (Some e) request is = subst (λ (x : Ending). SettlesTo true root held new (Some x) tells disk disk) (sym is.0) (settle_yields root held tells disk new is.1 (is.2 ∙ sym none))
+pub bare_empty : (only : Bool) → (only || true) ≡ true
+bare_empty true = refl
+bare_empty false = refl
 
--- the end came, with no request left
-pub settles_end : (root : List ℕ) (held : Held) (tells : Type 0) (disk : Disk) → IsWaiting held.stage held.input → is_read_at held.stage ≡ true → held.ended ≡ true → held.owed ≡ [] → SettlesTo true root held held (Some ending.Clean) tells disk disk
-settles_end root held tells disk waiting reads ended owed = settle_finishes root held tells disk true waiting (λ i. has_no_items (owed i) && over held.stage held.ended reads ended i)
+-- a request that is refused
+module _ (root : List ℕ) (held : Held) (tells : Type 0) (disk : Disk) (none : held.file ≡ None) (here : tells → Fits disk.table held) (status : ℕ) where
+  no_memory : (form : Form) (new : Held) (e : Ending) → (e ≡ ending.NoMemory) × (new ≡ holding held None) → SettlesTo true root held new (Some e) tells disk disk
+  no_memory form new e is = subst (λ (x : Ending). SettlesTo true root held new (Some x) tells disk disk) (sym is.0) (settle_yields root held tells disk new (ap (λ (h : Held). h.link) is.1) (ap (λ (h : Held). h.file) is.1 ∙ sym none))
+
+  refused_by : (form : Form) (new : Held) (result : Option Ending) → IsRefused held.stage status → form ≡ refused_form (head_at held.stage) → GivenBy result held new (map Byte (error_bytes form.minor status form.last form.head_only)) None form.last → SettlesTo true root held new result tells disk disk
+  refused_by form new (Some e) refused is given = no_memory form new e given
+  refused_by form new None (IsRefused.Unread at) is given =
+      let form_is : form ≡ refused_form None = is ∙ ap (λ (s : Stage). refused_form (head_at s)) at in
+      gives_on root held tells disk disk none here (map Byte (error_bytes 1 status true false)) None true new
+      (given ∙ ap (λ (g : Form). answered held (map Byte (error_bytes g.minor status g.last g.head_only)) None g.last) form_is) (error_some 1 status true false)
+      (λ f. same_files held.link disk None) (λ f. tt) (λ f. all_memory disk.table None (error_bytes 1 status true false))
+      (λ f acts m. refuse_by root held disk acts status (map Byte (error_bytes 1 status true false)) at (memory_bytes disk.table (error_bytes 1 status true false)) m)
+  refused_by form new None (IsRefused.Read head at) is given =
+      let form_is : form ≡ refused_form (Some head) = is ∙ ap (λ (s : Stage). refused_form (head_at s)) at in
+      gives_on root held tells disk disk none here (map Byte (error_bytes head.minor status true (is_head head.method))) None true new
+      (given ∙ ap (λ (g : Form). answered held (map Byte (error_bytes g.minor status g.last g.head_only)) None g.last) form_is) (error_some head.minor status true (is_head head.method))
+      (λ f. same_files held.link disk None) (λ f. tt) (λ f. all_memory disk.table None (error_bytes head.minor status true (is_head head.method)))
+      (λ f acts m. decline_by root held disk acts status (map Byte (error_bytes head.minor status true (is_head head.method))) head at (memory_bytes disk.table (error_bytes head.minor status true (is_head head.method))) m)
+
+  pub settles_refused : (form : Form) (new : Held) (result : Option Ending) → IsRefused held.stage status → form ≡ refused_form (head_at held.stage) → GivenBy result held new (map Byte (error_bytes form.minor status form.last form.head_only)) None form.last → SettlesTo true root held new result tells disk disk
+  settles_refused form new result refused is given = refused_by form new result refused is given
+
+-- one that goes on by where it stands
+module _ (may : Bool) (root : List ℕ) (held : Held) (tells : Type 0) (disk : Disk) where
+  pub goes_rests : (tells → Fits disk.table held) → Rests held → SettlesTo may root held held None tells disk disk
+  goes_rests fits rests = settle_rests root held tells disk rests.0 rests.1 fits
+
+  pub goes_finishes : IsAdvanced held → is_done held ≡ true → SettlesTo may root held held (Some ending.Clean) tells disk disk
+  goes_finishes step done = settle_finishes root held tells disk may (step_settled held step) done
+
+  pub goes_answers : (new : Held) (after : Disk) (result : Option Ending) → may ≡ true → SettlesTo true root held new result tells disk after → SettlesTo may root held new result tells disk after
+  goes_answers new after result allowed settles = subst (λ (b : Bool). SettlesTo b root held new result tells disk after) (sym allowed) settles
+
+-- the step that what came allows, and then what follows
+module _ (root : List ℕ) (held mid : Held) (tells : Type 0) (disk : Disk) (free : IsFree held) (is : mid ≡ advanced held) where
+  pub step_then : (may : Bool) (new : Held) (after : Disk) (result : Option Ending) → SettlesTo may root mid new result tells disk after → SettlesTo may root held new result tells disk after
+  step_then may new after result settles = advance_then may root held new tells disk after result (free_freed held free)
+      (subst (λ (h : Held). SettlesTo may root h new result tells disk after) is settles)
+
+  pub step_goes : is_idle held.stage ≡ true → (new : Held) (after : Disk) (result : Option Ending) → SettlesTo (is_asking mid.stage) root mid new result tells disk after → SettlesTo (looks held) root held new result tells disk after
+  step_goes idle new after result settles = step_then (looks held) new after result (settle_more (is_asking mid.stage) (looks held) root mid new tells disk after result (asks_looks held mid is idle) settles)
+
+  pub step_reads : looks held ≡ true → (new : Held) (after : Disk) (result : Option Ending) → SettlesTo true root mid new result tells disk after → SettlesTo (looks held) root held new result tells disk after
+  step_reads looked new after result settles = step_then (looks held) new after result (goes_answers (looks held) root mid tells disk new after result looked settles)
+
+  pub step_link : mid.link ≡ held.link
+  step_link = ap (λ (h : Held). h.link) is ∙ advanced_link held
+
+  pub step_fits : (tells → Fits disk.table held) → tells → Fits disk.table mid
+  step_fits fits f = subst (Fits disk.table) (sym is) (advanced_fits disk.table held (fits f))
+
+-- without memory nothing is looked at
+pub settles_unlooked : (root : List ℕ) (held new : Held) (tells : Type 0) (disk : Disk) → new.link ≡ held.link → new.file ≡ held.file → looks held ≡ true → SettlesTo (looks held) root held new (Some ending.NoMemory) tells disk disk
+settles_unlooked root held new tells disk link file looked = goes_answers (looks held) root held tells disk new disk (Some ending.NoMemory) looked (settle_yields root held tells disk new link file)
+
+pub settles_unread : (root : List ℕ) (held new : Held) (tells : Type 0) (disk : Disk) → new.link ≡ held.link → new.file ≡ held.file → SettlesTo true root held new (Some ending.NoMemory) tells disk disk
+settles_unread root held new tells disk link file = settle_yields root held tells disk new link file
+
+-- the body of its request is accepted, and then what follows
+module _ (root : List ℕ) (held mid : Held) (tells : Type 0) (disk : Disk) (limit : ℕ) (same : limit ≡ body_limit) (heading : stage_of held ≡ next.Head) (free : IsFree held) (is : mid ≡ accepted held limit) where
+  pub body_link : mid.link ≡ held.link
+  body_link = ap (λ (h : Held). h.link) is ∙ accepted_link held limit
+
+  pub body_idle : is_idle mid.stage ≡ true
+  body_idle = ap (λ (h : Held). is_idle h.stage) is ∙ accepted_idle held limit (headed held heading)
+
+  pub body_free : IsFree mid
+  body_free = subst IsFree (sym is) (accepted_free held limit (headed held heading) free)
+
+  pub body_fits : (tells → Fits disk.table held) → tells → Fits disk.table mid
+  body_fits fits f = subst (Fits disk.table) (sym is) (accepted_fits disk.table held limit (fits f))
+
+  pub body_read : stage_of (advanced mid) ≡ next.Head → ⊥
+  body_read at = accepted_reads held limit (headed held heading) (ap (λ (h : Held). stage_of (advanced h)) (sym is) ∙ at)
+
+  pub body_then : (new : Held) (after : Disk) (result : Option Ending) → SettlesTo true root mid new result tells disk after → SettlesTo true root held new result tells disk after
+  body_then new after result settles = accept_then true root held new tells disk after result limit same (subst (λ (h : Held). SettlesTo true root h new result tells disk after) is settles)
+
+  pub body_goes : (now new : Held) (after : Disk) (result : Option Ending) → now ≡ advanced mid → SettlesTo (is_asking now.stage) root now new result tells disk after → SettlesTo true root held new result tells disk after
+  body_goes now new after result now_is settles = body_then new after result
+      (step_then root mid now tells disk body_free now_is true new after result (settle_more (is_asking now.stage) true root now new tells disk after result (λ e. refl) settles))
+
+-- one that is answered rests
+pub given_waits : (result : Option Ending) (old new : Held) (items : List Item) (file : Option ℕ) (last : Bool) → has_no_items items ≡ false → GivenBy result old new items file last → WaitsOn result new
+given_waits None old new items file last some given = let owes : has_no_items (old.owed ++ items) ≡ false = some_behind old.owed items some in subst IsResting (sym given) (owes, λ none. absurd (cc (owes, none)))
+given_waits (Some e) old new items file last some given = tt
+
+pub bytes_some : (head : List ℕ) (items : List Item) → 0 < length head → has_no_items (map Byte head ++ items) ≡ false
+bytes_some [] items some = absurd (omega (arith, some))
+bytes_some (b ∷ head) items some = refl
+
+-- what was spelled, with no body behind it
+pub given_bare : (result : Option Ending) (old new : Held) (bytes text : List ℕ) (body : Contents) (last : Bool) → body ≡ empty → bytes ≡ text → GivenBy result old new (map Byte bytes ++ items_of body) None last → GivenBy result old new (map Byte text) None last
+given_bare result old new bytes text body last none same given = subst (λ (items : List Item). GivenBy result old new items None last)
+    (ap (λ (b : Contents). map Byte bytes ++ items_of b) none ∙ append-nil (map Byte bytes) ∙ ap (map Byte) same) given
+
+-- and with a whole file
+pub given_file : (result : Option Ending) (old new : Held) (bytes text : List ℕ) (none body : Contents) (file size : ℕ) (last : Bool) → none ≡ empty → items_of body ≡ items_of none ++ range file 0 size → bytes ≡ text
+    → GivenBy result old new (map Byte bytes ++ items_of body) (Some file) last → GivenBy result old new (map Byte text ++ range file 0 size) (Some file) last
+given_file result old new bytes text none body file size last nothing pushed same given = subst (λ (items : List Item). GivenBy result old new items (Some file) last)
+    (ap (λ (b : List ℕ). map Byte b ++ items_of body) same ∙ ap (λ (items : List Item). map Byte text ++ items) (pushed ∙ ap (λ (b : Contents). items_of b ++ range file 0 size) nothing)) given
+
+-- in the form that its request asks for
+pub error_formed : (result : Option Ending) (old new : Held) (status : ℕ) (f g : Form) → f ≡ g → GivenBy result old new (map Byte (error_bytes f.minor status f.last f.head_only)) None f.last → GivenBy result old new (map Byte (error_bytes g.minor status g.last g.head_only)) None g.last
+error_formed result old new status f g same given = subst (λ (h : Form). GivenBy result old new (map Byte (error_bytes h.minor status h.last h.head_only)) None h.last) same given
+
+pub bare_formed : (result : Option Ending) (old new : Held) (size : ℕ) (f g : Form) → f ≡ g → GivenBy result old new (map Byte (file_head f.minor size f.last)) None f.last → GivenBy result old new (map Byte (file_head g.minor size g.last)) None g.last
+bare_formed result old new size f g same given = subst (λ (h : Form). GivenBy result old new (map Byte (file_head h.minor size h.last)) None h.last) same given
+
+pub file_formed : (result : Option Ending) (old new : Held) (file size : ℕ) (f g : Form) → f ≡ g → GivenBy result old new (map Byte (file_head f.minor size f.last) ++ range file 0 size) (Some file) f.last → GivenBy result old new (map Byte (file_head g.minor size g.last) ++ range file 0 size) (Some file) g.last
+file_formed result old new file size f g same given = subst (λ (h : Form). GivenBy result old new (map Byte (file_head h.minor size h.last) ++ range file 0 size) (Some file) h.last) same given
+
+-- a file that has bytes ends a body
+range_body : (file start n : ℕ) → 0 < n → EndsInFile file (range file start n)
+range_body file start zero some = absurd (omega (arith, some))
+range_body file start (suc zero) some = refl
+range_body file start (suc (suc n)) some = (refl, range_body file (start + 1) (suc n) (omega arith))
+
+pub body_ends : (none body : Contents) (file size : ℕ) → none ≡ empty → items_of body ≡ items_of none ++ range file 0 size → size ≢ 0 → EndsInFile file (items_of body)
+body_ends none body file size nothing pushed some = subst (EndsInFile file) (sym (pushed ∙ ap (λ (b : Contents). items_of b ++ range file 0 size) nothing)) (range_body file 0 size (not_zero size some))
   where
-    over : (s : Stage) (e : Bool) → is_read_at s ≡ true → e ≡ true → is_done_at s e ≡ true
-    over (Awaiting k) e reads is = is
-    over (Answering k last) e reads is = absurd (cc (reads))
+    not_zero : (n : ℕ) → n ≢ 0 → 0 < n
+    not_zero zero some = absurd (some refl)
+    not_zero (suc n) some = omega arith
 
--- the head that was spelled
-pub given_head : (result : Option Ending) (old new : Held) (rest a b : List ℕ) (file : Option ℕ) (size : ℕ) → a ≡ b → GivenBy result old new rest (reply_items a file size) file → GivenBy result old new rest (reply_items b file size) file
-given_head result old new rest a b file size same given = subst (λ (h : List ℕ). GivenBy result old new rest (reply_items h file size) file) same given
+pub body_count : (none body : Contents) (file size : ℕ) → none ≡ empty → items_of body ≡ items_of none ++ range file 0 size → count_of body ≡ size
+body_count none body file size nothing pushed = ap length (pushed ∙ ap (λ (b : Contents). items_of b ++ range file 0 size) nothing) ∙ length-range file 0 size
 
-pub plans_as : (p q : Planned) → p ≡ q → (root : List ℕ) (client k : ℕ) (path : List ℕ) (before after : Disk) → Plans p root client k path before after → Plans q root client k path before after
-plans_as p q is root client k path before after plans = subst (λ (x : Planned). Plans x root client k path before after) is plans
+-- buffers of a new body
+pub kept_with : (p q r : PoolState) (none : Contents) (l body m : List ℕ) → none ≡ empty → Kept p none.numbers q body → Kept q (l ++ body) r m → Kept p l r m
+kept_with p q r none l body m nothing pushed given = subst (λ (g : List ℕ). Kept p g r m) (append-nil l)
+    (kept_both p q r (l ++ []) (l ++ body) m (kept_beside p q l [] body (subst (λ (b : Contents). Kept p b.numbers q body) nothing pushed)) given)
 
-pub plans_at : (p : Planned) (a b : List ℕ) (m n j k : ℕ) (path : List ℕ) (before after : Disk) → a ≡ b → m ≡ n → j ≡ k → Plans p a m j path before after → Plans p b n k path before after
-plans_at p a b m n j k path before after root client number plans =
-    subst (λ (r : List ℕ). Plans p r n k path before after) root (subst (λ (c : ℕ). Plans p a c k path before after) client (subst (λ (i : ℕ). Plans p a m i path before after) number plans))
+pub plans_as : (p q : Planned) → p ≡ q → (root : List ℕ) (client k : ℕ) (head : Head) (before after : Disk) → Plans p root client k head before after → Plans q root client k head before after
+plans_as p q is root client k head before after plans = subst (λ (x : Planned). Plans x root client k head before after) is plans
+
+pub plans_at : (p : Planned) (a b : List ℕ) (m n j k : ℕ) (g h : Head) (before after : Disk) → a ≡ b → m ≡ n → j ≡ k → g ≡ h → Plans p a m j g before after → Plans p b n k h before after
+plans_at p a b m n j k g h before after root client number head plans =
+    subst (λ (r : List ℕ). Plans p r n k h before after) root (subst (λ (c : ℕ). Plans p a c k h before after) client (subst (λ (i : ℕ). Plans p a m i h before after) number (subst (λ (x : Head). Plans p a m j x before after) head plans)))
+
+-- the head that was read is the one of the request
+pub same_head : (g h : Head) (o : Option Head) → Some g ≡ o → o ≡ Some h → g ≡ h
+same_head g h o a b = let s : Some g ≡ Some h = a ∙ b in cc (s)
+
+pub form_at : (form : Form) (j k : ℕ) (g h : Head) → form ≡ form_of j g → j ≡ k → g ≡ h → form ≡ form_of k h
+form_at form j k g h is number head = is ∙ (λ i. form_of (number i) (head i))

@@ -1,67 +1,56 @@
 -- The steps of the code, by those of the model.
-use Rattle.std.proofs.Common.{◌≡◌, ℕ, ◌+◌, ◌-◌, ◌≤◌, ◌<◌, List, [], ◌∷◌, ◌++◌, length, take, drop, Bool, true, false, nat_le, nat_lt, Option, Some, None, if◌then◌else◌, refl, sym, ◌∙◌, ap, subst, arith, inl, inr}
-use Rattle.std.proofs.lemmas.List.{length-take}
-use Rattle.std.proofs.lemmas.Bool.{cases_lt}
+use Rattle.std.proofs.Common.{◌≡◌, ◌≢◌, ℕ, zero, suc, ◌≤◌, ◌<◌, List, [], ◌∷◌, length, take, drop, Bool, true, false, nat_lt, Option, Some, None, if◌then◌else◌, refl, sym, ◌∙◌, ap, subst, arith}
 use Rattle.std.proofs.lemmas.Bool.Decides.{nat_tests}
-use Rattle.std.proofs.Math.Seq.{take-append_seam}
 use Rattle.lt_world.specs.declared.net.Ending.{Ending}
 use Rattle.lt_world.specs.declared.net.Ending.TheVariants as ending
+use Rattle.lt_world.specs.declared.net.Owner.{Owner}
+use Rattle.lt_world.specs.Causes.{Rose}
 use Rattle.lt_world.specs.Disk.{Disk, Table}
 use Rattle.lt_world.specs.Trace.{Act, Entry, Writing, Wrote, NotYet, Failed, said}
-use Rattle.chunkqueue.specs.Items.{Item, Byte, FileByte, AllLie, Leads, Shows, bytes_of}
-use Rattle.server_model.specs.Request.{Unfinished, Refused, head_limit, head_end, first_line, target_of, asked, headed, request_of}
-use Rattle.server_model.specs.Plan.{World, world_of}
-use Rattle.server_model.specs.Deeds.{Deed, Ours, ours, told}
-use Rattle.server_model.specs.Client.{current, IsFinished, IsRight}
-use Rattle.server_model.specs.Held.{Stage, Awaiting, Answering, Held}
-use Rattle.server_model.specs.Steps.{number_of, took, staged, is_read_at, is_done}
-use Rattle.server_model.specs.Files.{AllFit, Fits, FitsFor, FileStep}
-use Rattle.server_model.specs.Serves.{IsWaiting, Stands, StandsFor}
+use Rattle.chunkqueue.specs.Items.{Item, Byte, FileByte, AllLie, Leads, Shows}
+use Rattle.server_model.specs.Deeds.{Ours, told}
+use Rattle.server_model.specs.Held.{Stage, Awaiting, Heading, Taking, Asking, Answering, Held}
+use Rattle.server_model.specs.Steps.{number_of, took, wrote, staged, without_file, looks, has_no_items, room_of, wants_read}
+use Rattle.server_model.specs.Files.{AllFit, Fits, Drops}
+use Rattle.server_model.specs.Serves.{IsWaitingAt, Stands}
 use Rattle.server_model.specs.Due.{DueWrite, offer_limit}
-use Rattle.server_model.specs.Turns.{Seen, ReadFailed, StepsBy, StopsBy, GoesBy}
+use Rattle.server_model.specs.Turns.{Seen, ReadFailed, GoesBy}
 use Rattle.server_model.specs.Settling.{SettlesTo}
 use Rattle.server_model.proofs.FileSteps.{drop_fits}
-use Rattle.server_model.proofs.SettleSteps.{settle_rests, settle_finishes}
-use Rattle.server_model.proofs.Settled.{number_is, length-bytes_of}
-use Rattle.server_model.proofs.Standing.{matches_right, stands_owes}
-use Rattle.server_model.proofs.Stepping.{step_stops}
-use Rattle.server_model.proofs.WriteSteps.{answers_some, write_not_yet, write_failed, write_then, staged_then}
-use Rattle.server_core.proofs.Heads.{none_in_all, short_none}
+use Rattle.server_model.proofs.SettleSteps.{settle_more}
+use Rattle.server_model.proofs.Stepping.{same_goes}
+use Rattle.server_model.proofs.WriteSteps.{write_not_yet, write_failed, write_faults, write_then, staged_then}
+use Rattle.server_core.specs.Steps.{is_idle, IsFreeAt, IsFree, IsResting, done_file}
 
 -- what is told of a link
 pub tells_at : (l m : ℕ) (act : Act) (old now : List Entry) → l ≡ m → now ≡ said l (act ∷ []) old → now ≡ told m (Ours act ∷ []) old
 tells_at l m act old now same told_is = told_is ∙ ap (λ (n : ℕ). said n (act ∷ []) old) same
 
-pub waiting_asks : (s : Stage) (input : List ℕ) → is_read_at s ≡ true → IsWaiting s input → request_of input ≡ Unfinished
-waiting_asks (Awaiting k) input reads waiting = waiting
-waiting_asks (Answering k last) input reads waiting = absurd (cc (reads))
+-- for a client that rests no head waits, and no request
+waits_idle : (s : Stage) (input : List ℕ) (owed : List Item) → IsWaitingAt s input owed → is_idle s ≡ true
+waits_idle (Awaiting k) input owed waiting = refl
+waits_idle (Heading k head) input owed waiting = absurd waiting
+waits_idle (Taking k head s content) input owed waiting = refl
+waits_idle (Asking k r) input owed waiting = absurd waiting
+waits_idle (Answering k last) input owed waiting = refl
 
--- no head is there, and room for more
-pub unfinished_none : (bytes : List ℕ) → request_of bytes ≡ Unfinished → (head_end bytes ≡ None) × (length bytes < head_limit)
-unfinished_none bytes is = by (head_end (take head_limit bytes)) refl
-  where
-    ended : (o : Option (List ℕ)) (rest : List ℕ) → asked o rest ≡ Unfinished → ⊥
-    ended None rest e = cc (e)
-    ended (Some path) rest e = cc (e)
+pub rests_idle : (held : Held) → IsResting held → is_idle held.stage ≡ true
+rests_idle held rests = waits_idle held.stage held.input held.owed rests.0
 
-    below : (t : Bool) → nat_le head_limit (length bytes) ≡ t → (if t then Refused 501 else Unfinished) ≡ Unfinished → length bytes < head_limit
-    below true test e = absurd (cc (e))
-    below false test e = grind (arith, nat_tests, test)
+-- a read is wanted where there is room
+pub room_wants : (held : Held) (room : ℕ) → room ≡ room_of held → room ≢ 0 → wants_read held ≡ true
+room_wants held zero is some = absurd (some refl)
+room_wants held (suc room) is some = let more : 0 < room_of held = omega (arith, is) in grind (arith, nat_tests, more)
 
-    by : (o : Option ℕ) → head_end (take head_limit bytes) ≡ o → (head_end bytes ≡ None) × (length bytes < head_limit)
-    by None none =
-        let short = below (nat_le head_limit (length bytes)) refl (ap (λ (o : Option ℕ). headed o bytes) (sym none) ∙ is) in
-        (none_in_all head_limit bytes none (omega (arith, short)), short)
-    by (Some n) some = absurd (ended (target_of (first_line (take n bytes))) (drop n bytes) (ap (λ (o : Option ℕ). headed o bytes) (sym some) ∙ is))
+pub no_room : (held : Held) (room : ℕ) → room ≡ room_of held → room ≡ 0 → wants_read held ≡ false
+no_room held room is none = let zero_is : room_of held ≡ 0 = sym is ∙ none in ap (λ (n : ℕ). nat_lt 0 n) zero_is
 
--- where bytes come behind those in which no head ends, none ends within three bytes behind the old ones
-pub unread_after : (input bytes : List ℕ) (from : ℕ) → request_of input ≡ Unfinished → from ≡ length input - 3 → head_end (take (from + 3) (input ++ bytes)) ≡ None
-unread_after input bytes from is count = elim (cases_lt (length input) 3) [
-  | inl short ↦ short_none (take (from + 3) (input ++ bytes)) (omega (arith, count, short, length-take (from + 3) (input ++ bytes)))
-  | inr long ↦
-      let all : from + 3 ≡ length input = omega (arith, count, long) in
-      ap (λ (n : ℕ). head_end (take n (input ++ bytes))) all ∙ ap head_end (take-append_seam input bytes) ∙ (unfinished_none input is).0
-]
+-- what settles after a read, for which memory may always be wanted
+pub settles_read : (root : List ℕ) (mid held new : Held) (files : Type 0) (before after : Disk) (result : Option Ending) → mid ≡ held → SettlesTo (looks mid) root mid new result files before after → SettlesTo true root held new result files before after
+settles_read root mid held new files before after result is settles = subst (λ (h : Held). SettlesTo true root h new result files before after) is (settle_more (looks mid) true root mid new files before after result (λ e. refl) settles)
+
+pub same_table : (a b c : Disk) → b ≡ a → c ≡ b → c.table ≡ a.table
+same_table a b c one two = ap (λ (d : Disk). d.table) (two ∙ one)
 
 -- what fits the files lies in them
 pub fit_lie : (table : Table) (file : Option ℕ) (items : List Item) → AllFit table file items → AllLie table items
@@ -69,81 +58,97 @@ fit_lie table file [] fit = tt
 fit_lie table file (Byte b ∷ items) fit = fit_lie table file items fit
 fit_lie table file (FileByte from at ∷ items) fit = (fit.1, fit_lie table file items fit.2)
 
--- files that stay as they were
-module _ (From : Table → World → Held → List Act → Type 0) (due : World → World → List Deed → List Deed → Type 0) (root : List ℕ) (held new : Held) (net files : Type 0) (before after : Disk) (old now : List Entry) (same : files → after ≡ before) where
-  steps_same : (next : Option Held) → StepsBy From due root held next net files before before old now → StepsBy From due root held next net files before after old now
-  steps_same next s = record {
-    deeds = s.deeds;
-    are = s.are;
-    gains = s.gains;
-    does = λ f. subst (λ (d : Disk). FileStep held.link held.file (Rattle.server_model.specs.Files.file_of next) before d) (sym (same f)) (s.does f);
-    fits = λ f. subst (λ (d : Disk). FitsFor d.table next) (sym (same f)) (s.fits f);
-    keeps = λ f past from. subst (λ (d : Disk). StandsFor d.table (world_of root d held.link) next (s.deeds ++ past) × due (world_of root before held.link) (world_of root d held.link) past (s.deeds ++ past)) (sym (same f)) (s.keeps f past from);
-  }
+-- a read of the file failed, as is seen later too
+pub fault_later : (client number : ℕ) (before later : Seen) (faults : ℕ) (failed_read : Option Owner) → Rose before.faults faults → failed_read ≡ Some (record { conn = client; request = number })
+    → faults ≤ later.faults → later.failed_read ≡ failed_read → ReadFailed client number before later
+fault_later client number before later faults failed_read rose owner more same = record { rose = omega (arith, rose, more); owner = record { conn = client; request = number }; is = same ∙ owner; conn = refl; request = refl }
 
-  stops_same : (e : Ending) → StopsBy From due root held new e net files before before old now → StopsBy From due root held new e net files before after old now
-  stops_same e s = record {
-    deeds = s.deeds;
-    are = s.are;
-    gains = s.gains;
-    link = s.link;
-    does = λ f. subst (λ (d : Disk). FileStep held.link held.file new.file before d) (sym (same f)) (s.does f);
-    keeps = λ f past from. subst (λ (d : Disk). IsRight (world_of root d held.link) (ours (s.deeds ++ past)) × (e ≡ ending.Clean → IsFinished (world_of root d held.link) (ours (s.deeds ++ past)))
-        × due (world_of root before held.link) (world_of root d held.link) past (Ours (Rattle.lt_world.specs.Trace.Close e) ∷ s.deeds ++ past)) (sym (same f)) (s.keeps f past from);
-  }
-
-  pub goes_same : (result : Option Ending) → GoesBy From due root held new result net files before before old now → GoesBy From due root held new result net files before after old now
-  goes_same None s = steps_same (Some new) s
-  goes_same (Some e) s = stops_same e s
-
--- a read that failed is seen later too
-pub failed_later : (client number : ℕ) (before after later : Seen) → ReadFailed client number before after → after.faults ≤ later.faults → later.failed_read ≡ after.failed_read → ReadFailed client number before later
-failed_later client number before after later failed more same = record { rose = omega (arith, failed.rose, more); owner = failed.owner; is = same ∙ failed.is; conn = failed.conn; request = failed.request }
-
--- the read of the file failed
+-- a fault of the file
 pub faults_goes : (failed : ℕ → Type 0) (root : List ℕ) (held new : Held) (net files : Type 0) (before after : Disk) (old : List Entry) → 0 < length held.owed → (files → failed (number_of held.stage)) → new ≡ held → (files → after ≡ before)
-    → StopsBy Stands (DueWrite failed) root held new ending.FileFault net files before after old old
+    → GoesBy Stands (DueWrite failed) root held new (Some ending.FileFault) net files before after old old
 faults_goes failed root held new net files before after old some fault same disk =
-    goes_same Stands (DueWrite failed) root held new net files before after old old disk (Some ending.FileFault)
-    (step_stops Stands (DueWrite failed) root held net files before old old ending.FileFault new [] tt (λ n. refl) (ap (λ (h : Held). h.link) same) (ap (λ (h : Held). h.file) same)
-    (λ f past s.
-    let a = answers_some before.table (world_of root before held.link) held (ours past) s.matches some in
-    let number : number_of held.stage ≡ (current (world_of root before held.link) (ours past)).number = ap number_of a.stage ∙ sym (number_is (world_of root before held.link) (ours past)) in
-    let more : 0 < length (bytes_of before.table held.owed) = omega (arith, some, length-bytes_of before.table held.owed) in
-    let yes : nat_lt 0 (length (bytes_of before.table held.owed)) ≡ true = grind (arith, nat_tests, more) in
-    (matches_right before.table (world_of root before held.link) held (ours past) s.matches, (λ e. absurd (cc (e))), DueWrite.faults (stands_owes before.table (world_of root before held.link) held (ours past) s ∙ yes) (subst failed number (fault f)))))
+    same_goes Stands (DueWrite failed) (DueWrite failed) root held new net files before after after old old (λ f was is past all due. due) (λ f. sym (disk f)) (Some ending.FileFault)
+    (write_faults failed root held net files after old new some fault (ap (λ (h : Held). h.link) same) (ap (λ (h : Held). h.file) same))
+
+-- what was staged keeps the stage, and what was taken too
+module _ (held mid : Held) (is : mid ≡ staged held mid.staged) (n : ℕ) where
+  wrote_stage : (wrote mid n).stage ≡ mid.stage
+  wrote_stage = by (has_no_items (drop n mid.owed))
+    where
+      by : (t : Bool) → (if t then without_file (took mid n) else took mid n).stage ≡ mid.stage
+      by true = refl
+      by false = refl
+
+  pub wrote_idle : (new : Held) → new ≡ wrote mid n → IsResting held → is_idle new.stage ≡ true
+  wrote_idle new new_is rests = ap (λ (h : Held). is_idle h.stage) new_is ∙ ap is_idle (wrote_stage ∙ ap (λ (h : Held). h.stage) is) ∙ rests_idle held rests
+
+  pub wrote_free : (new : Held) → new ≡ wrote mid n → IsResting held → IsFree new
+  wrote_free new new_is rests = subst IsFree (sym new_is) (by (has_no_items (drop n mid.owed)) refl)
+    where
+      gone : (s : Stage) (owed : List Item) → IsFreeAt s owed None
+      gone (Awaiting k) owed = refl
+      gone (Heading k head) owed = refl
+      gone (Taking k head s content) owed = refl
+      gone (Asking k r) owed = refl
+      gone (Answering k last) owed = λ e. refl
+
+      still : (s : Stage) (owed before : List Item) (file : Option ℕ) → has_no_items owed ≡ false → IsFreeAt s before file → IsFreeAt s owed file
+      still (Awaiting k) owed before file some free = free
+      still (Heading k head) owed before file some free = free
+      still (Taking k head s content) owed before file some free = free
+      still (Asking k r) owed before file some free = free
+      still (Answering k last) owed before file some free = λ e. absurd (cc (some, e))
+
+      mid_free : IsFree mid
+      mid_free = subst IsFree (sym is) rests.1
+
+      by : (t : Bool) → has_no_items (drop n mid.owed) ≡ t → IsFree (if t then without_file (took mid n) else took mid n)
+      by true none = gone mid.stage (drop n mid.owed)
+      by false some = still mid.stage (drop n mid.owed) mid.owed mid.file some mid_free
+
+  pub wrote_fits : (table after : Table) (new : Held) → new ≡ wrote mid n → Fits table held → (has_no_items (drop n mid.owed) ≡ false → after ≡ table) → Fits after new
+  wrote_fits table after new new_is fits same = subst (Fits after) (sym new_is) (by (has_no_items (drop n mid.owed)) refl)
+    where
+      none_fit : (items : List Item) → has_no_items items ≡ true → AllFit after None items
+      none_fit [] e = tt
+      none_fit (item ∷ items) e = absurd (cc (e))
+
+      mid_fits : Fits table mid
+      mid_fits = subst (Fits table) (sym is) (record { is_open = fits.is_open; owed = fits.owed })
+
+      by : (t : Bool) → has_no_items (drop n mid.owed) ≡ t → Fits after (if t then without_file (took mid n) else took mid n)
+      by true none = record { is_open = tt; owed = none_fit (drop n mid.owed) none }
+      by false some = subst (λ (t : Table). Fits t (took mid n)) (sym (same some)) (record { is_open = mid_fits.is_open; owed = drop_fits table mid.file n mid.owed mid_fits.owed })
+
+  -- where something is still owed, no file was given back
+  pub still_same : (before after : Disk) → Drops (done_file mid n) before after → has_no_items (drop n mid.owed) ≡ false → after ≡ before
+  still_same before after dropped some = subst (λ (t : Bool). Drops (if t then mid.file else None) before after) some dropped
 
 -- what is owed was staged, and offered
-module _ (failed : ℕ → Type 0) (root : List ℕ) (held mid : Held) (net files : Type 0) (before after : Disk) (old now : List Entry)
-    (is : mid ≡ staged held mid.staged) (some : 0 < length held.owed) (reads : files → Shows before.table held.owed held.staged → Shows before.table held.owed mid.staged) (same : files → after ≡ before)
-    (front : List ℕ) (leads : Leads mid.owed mid.staged front) (any : 1 ≤ length front) (most : length front ≤ offer_limit) (waiting : IsWaiting held.stage held.input) (fits : files → Fits before.table held) where
-  mid_waiting : IsWaiting mid.stage mid.input
-  mid_waiting = subst (λ (h : Held). IsWaiting h.stage h.input) (sym is) waiting
+module _ (failed : ℕ → Type 0) (root : List ℕ) (held mid : Held) (net files : Type 0) (before disk : Disk) (old now : List Entry)
+    (is : mid ≡ staged held mid.staged) (some : 0 < length held.owed) (reads : files → Shows before.table held.owed held.staged → Shows before.table held.owed mid.staged) (same : files → disk ≡ before)
+    (front : List ℕ) (leads : Leads mid.owed mid.staged front) (any : 1 ≤ length front) (most : length front ≤ offer_limit) where
+  reads_on : files → Shows disk.table held.owed held.staged → Shows disk.table held.owed mid.staged
+  reads_on f shows =
+      let P : List ℕ → Disk → Type 0 = λ bytes d. Shows d.table held.owed bytes in
+      subst (P mid.staged) (sym (same f)) (reads f (subst (P held.staged) (same f) shows))
 
-  mid_fits : files → Fits before.table mid
-  mid_fits f = subst (Fits before.table) (sym is) (record { is_open = (fits f).is_open; owed = (fits f).owed })
+  via : (new : Held) (after : Disk) (result : Option Ending) → GoesBy Stands (DueWrite failed) root mid new result net files disk after old now → GoesBy Stands (DueWrite failed) root held new result net files before after old now
+  via new after result goes = same_goes Stands (DueWrite failed) (DueWrite failed) root held new net files before disk after old now (λ f was is past all due. due) (λ f. sym (same f)) result
+      (staged_then failed root held net files disk mid.staged new result after old now some reads_on (subst (λ (h : Held). GoesBy Stands (DueWrite failed) root h new result net files disk after old now) is goes))
 
-  via : (new : Held) (result : Option Ending) → GoesBy Stands (DueWrite failed) root mid new result net files before before old now → GoesBy Stands (DueWrite failed) root held new result net files before after old now
-  via new result goes = goes_same Stands (DueWrite failed) root held new net files before after old now same result
-      (staged_then failed root held net files before mid.staged new result before old now some reads (subst (λ (h : Held). GoesBy Stands (DueWrite failed) root h new result net files before before old now) is goes))
+  pub offered_not_yet : (net → now ≡ told mid.link (Ours (NotYet Writing) ∷ []) old) → (files → Fits before.table held) → GoesBy Stands (DueWrite failed) root held mid None net files before disk old now
+  offered_not_yet gains fits = via mid disk None (write_not_yet failed root mid net files disk old now front leads any most gains
+      (λ f. let here = fits f in subst (λ (d : Disk). Fits d.table mid) (sym (same f)) (subst (Fits before.table) (sym is) (record { is_open = here.is_open; owed = here.owed }))))
 
-  pub offered_not_yet : (net → now ≡ told mid.link (Ours (NotYet Writing) ∷ []) old) → GoesBy Stands (DueWrite failed) root held mid None net files before after old now
-  offered_not_yet gains = via mid None (write_not_yet failed root mid net files before old now front leads any most gains mid_fits)
+  pub offered_failed : (net → now ≡ told mid.link (Ours (Failed Writing) ∷ []) old) → GoesBy Stands (DueWrite failed) root held mid (Some ending.ClientFault) net files before disk old now
+  offered_failed gains = via mid disk (Some ending.ClientFault) (write_failed failed root mid net files disk old now front leads any most gains)
 
-  pub offered_failed : (net → now ≡ told mid.link (Ours (Failed Writing) ∷ []) old) → GoesBy Stands (DueWrite failed) root held mid (Some ending.ClientFault) net files before after old now
-  offered_failed gains = via mid (Some ending.ClientFault) (write_failed failed root mid net files before old now front leads any most gains)
-
-  module _ (n : ℕ) (le : n ≤ length front) (gains : net → now ≡ told mid.link (Ours (Wrote (length front) (take n front)) ∷ []) old) (new : Held) (took_is : new ≡ took mid n) where
-    took_goes : (result : Option Ending) → SettlesTo (nat_le (length mid.owed) (length (take n front))) root (took mid n) (took mid n) result files before before → GoesBy Stands (DueWrite failed) root held new result net files before after old now
-    took_goes result settles = via new result (write_then failed root mid net files before old now front leads any most before new result n le gains
-        (subst (λ (h : Held). SettlesTo (nat_le (length mid.owed) (length (take n front))) root (took mid n) h result files before before) (sym took_is) settles))
-
-    pub offered_done : is_done new ≡ true → GoesBy Stands (DueWrite failed) root held new (Some ending.Clean) net files before after old now
-    offered_done done = took_goes (Some ending.Clean) (settle_finishes root (took mid n) files before (nat_le (length mid.owed) (length (take n front))) mid_waiting (ap is_done (sym took_is) ∙ done))
-
-    pub offered_rest : is_done new ≡ false → GoesBy Stands (DueWrite failed) root held new None net files before after old now
-    offered_rest undone = took_goes None (settle_rests root (took mid n) files before mid_waiting (ap is_done (sym took_is) ∙ undone)
-        (λ f. record { is_open = (mid_fits f).is_open; owed = drop_fits before.table mid.file n mid.owed (mid_fits f).owed }))
+  pub offered_wrote : (between after : Disk) (mid_new new : Held) (result : Option Ending) (n : ℕ) → n ≤ length front → (net → now ≡ told mid.link (Ours (Wrote (length front) (take n front)) ∷ []) old) → mid_new ≡ wrote mid n
+      → (files → Drops (done_file mid n) disk between) → SettlesTo (looks mid_new) root mid_new new result files between after → GoesBy Stands (DueWrite failed) root held new result net files before after old now
+  offered_wrote between after mid_new new result n le gains took_is dropped settles = via new after result (write_then failed root mid net files disk old now front leads any most between after new result n le gains
+      dropped
+      (subst (λ (h : Held). SettlesTo (looks h) root h new result files between after) took_is settles))
 
 pub none_owed : (items : List Item) → false ≡ nat_lt 0 (length items) → items ≡ []
 none_owed [] is = refl

@@ -5,19 +5,22 @@ use Rattle.buffer_pool.specs.State.{PoolState}
 use Rattle.buffer_pool.specs.Kept.{Kept, HeldWithin}
 use Rattle.lt_world.specs.declared.net.Address.{Address}
 use Rattle.lt_world.specs.declared.net.Ending.{Ending}
+use Rattle.lt_world.specs.Disk.{Disk}
 use Rattle.lt_world.specs.Trace.{Act, Entry, Close, said}
 use Rattle.server_model.specs.Plan.{World}
 use Rattle.server_model.specs.Deeds.{Deed, Ours, told}
 use Rattle.server_model.specs.Held.{Held, IsPlace, kept_at}
 use Rattle.server_model.specs.Steps.{arrived}
-use Rattle.server_model.specs.Files.{Backs, IsTable}
+use Rattle.server_model.specs.Files.{Backs, Drops, IsTable}
 use Rattle.server_model.specs.Serves.{Stands}
 use Rattle.server_model.specs.Turns.{Seen, StepsBy, TurnsOn}
 use Rattle.server_model.proofs.Changing.{Changes, table_on}
+use Rattle.server_model.proofs.Requests.{request_of_nil}
 use Rattle.server_model.proofs.Turning.{IsReady, IsDue, turn_step, backs_step}
-use Rattle.server_core.specs.Connection.{Connected}
-use Rattle.server_core.specs.Table.{helds, serving, Rising, AllWaiting, IsKept}
-use Rattle.server_core.proofs.Listed.{helds_append, count_append, rising_push, waiting_push}
+use Rattle.connection.specs.Connection.{Connected}
+use Rattle.server_core.specs.Steps.{IsResting}
+use Rattle.server_core.specs.Table.{helds, serving, held_count, Rising, AllResting, IsKept}
+use Rattle.server_core.proofs.Listed.{helds_append, count_append, rising_push, resting_push}
 
 pub place_as : (link : ℕ) (conns other : List Connected) (i : ℕ) → other ≡ conns → IsPlace link (helds other) (Some i) → IsPlace link (helds conns) (Some i)
 place_as link conns other i is place = subst (λ (t : List Connected). IsPlace link (helds t) (Some i)) is place
@@ -46,23 +49,29 @@ module _ (event : Act) (due : Seen → Seen → ℕ → World → World → List
 pub conns_table : (links more link : ℕ) (conns next : List Connected) (now : Option Held) → Changes link (helds conns) (helds next) now → more ≡ links → link < links → IsTable links (helds conns) → IsTable more (helds next)
 conns_table links more link conns next now change same below is = table_on links more link (helds conns) (helds next) now is change (omega (arith, same)) (omega (arith, same, below))
 
+arrived_rests : (link : ℕ) (peer local : Address) → IsResting (arrived link peer local)
+arrived_rests link peer local = (request_of_nil, refl)
+
 -- a client that arrives is kept
 pub push_kept : (link : ℕ) (peer local : Address) (conns next : List Connected) (new : Connected) → new.held ≡ arrived link peer local → new.numbers ≡ [] → next ≡ conns ++ new ∷ [] → IsTable link (helds conns)
     → (store : PoolState) → IsKept store conns → IsKept store next
 push_kept link peer local conns next new is none pushed table store kept =
     let pushed_table : helds next ≡ helds conns ++ new.held ∷ [] = ap helds pushed ∙ helds_append conns (new ∷ []) in
     record {
-      counted = omega (arith, kept.counted, ap Rattle.server_core.specs.Table.held_count pushed, count_append conns (new ∷ []), ap length none);
+      counted = omega (arith, kept.counted, ap held_count pushed, count_append conns (new ∷ []), ap length none);
       rising = subst Rising (sym pushed_table) (rising_push link (helds conns) new.held table.below (omega (arith, ap (λ (h : Held). h.link) is)) kept.rising);
-      waiting = subst AllWaiting (sym pushed_table) (waiting_push (helds conns) new.held (subst (λ (h : Held). Rattle.server_model.specs.Serves.IsWaiting h.stage h.input) (sym is) refl) kept.waiting);
+      resting = subst AllResting (sym pushed_table) (resting_push (helds conns) new.held (subst IsResting (sym is) (arrived_rests link peer local)) kept.resting);
     }
 
--- the client that was closed, taken out of the list
-pub taken_out : (conns : List Connected) (i : ℕ) (closed taken : Connected) (numbers : List ℕ) → i < length conns → taken ≡ get_or (set conns i closed) i taken → closed.numbers ≡ numbers → taken.numbers ≡ numbers
-taken_out conns i closed taken numbers below is same = ap (λ (k : Connected). k.numbers) (is ∙ get_or-set_same conns i closed taken below) ∙ same
+-- the client that is to be closed, taken out of the list
+pub taken_is : (conns : List Connected) (i : ℕ) (closing taken : Connected) → i < length conns → taken ≡ get_or (set conns i closing) i taken → taken ≡ closing
+taken_is conns i closing taken below is = is ∙ get_or-set_same conns i closing taken below
 
-pub within_as : (store : PoolState) (a b : List ℕ) → a ≡ b → HeldWithin store (length b) → HeldWithin store (length a)
-within_as store a b is within = subst (λ (l : List ℕ). HeldWithin store (length l)) (sym is) within
+pub within_as : (store : PoolState) (taken closing : Connected) → taken ≡ closing → HeldWithin store (length closing.numbers) → HeldWithin store (length taken.numbers)
+within_as store taken closing is within = subst (λ (k : Connected). HeldWithin store (length k.numbers)) (sym is) within
 
-pub kept_as : (store next : PoolState) (a b : List ℕ) → a ≡ b → Kept store a next [] → Kept store b next []
-kept_as store next a b is kept = subst (λ (l : List ℕ). Kept store l next []) is kept
+pub kept_as : (store next : PoolState) (taken closing : Connected) → taken ≡ closing → Kept store taken.numbers next [] → Kept store closing.numbers next []
+kept_as store next taken closing is kept = subst (λ (k : Connected). Kept store k.numbers next []) is kept
+
+pub drops_at : (taken closing : Connected) (before after : Disk) → taken ≡ closing → Drops taken.held.file before after → Drops closing.held.file before after
+drops_at taken closing before after is dropped = subst (λ (k : Connected). Drops k.held.file before after) is dropped

@@ -1,7 +1,5 @@
-pub mod Connection
-pub mod Inside
+pub mod Form
 pub mod Planned
-pub mod Reading
 pub mod Steps
 pub mod Table
 pub mod Turns

@@ -4,20 +4,21 @@ use Rattle.lt_world.specs.declared.files.FileCall.TheVariants as call
 use Rattle.lt_world.specs.declared.net.Owner.{Owner}
 use Rattle.lt_world.specs.Disk.{Disk, asked}
 use Rattle.lt_world.specs.FileAnswers.{OpensFile}
+use Rattle.server_model.specs.Request.{Head}
 use Rattle.server_model.specs.Planning.{CallsFor, PlansError, PlansFile}
 use Rattle.server_core.specs.declared.plan.Planned.{Planned}
 use Rattle.server_core.specs.declared.plan.Planned.TheVariants.{Error, File, NoMemory}
 
-abbrev pub Plans : Planned → List ℕ → ℕ → ℕ → List ℕ → Disk → Disk → Type 0
-Plans (Error status) root client k path before after = PlansError status root client k path before after
-Plans (File file size) root client k path before after = PlansFile file.0 size root client k path before after
-Plans NoMemory root client k path before after = CallsFor root client k None before after
+abbrev pub Plans : Planned → List ℕ → ℕ → ℕ → Head → Disk → Disk → Type 0
+Plans (Error status) root client k head before after = PlansError status root client k head before after
+Plans (File file size) root client k head before after = PlansFile file.0 size root client k head before after
+Plans NoMemory root client k head before after = CallsFor root client k None before after
 
 -- what the answer to an open becomes
 abbrev pub OpensAs : Planned → Owner → List ℕ → Disk → Disk → Type 0
-OpensAs (Error status) owner path before after = (status ≡ 500) × (after ≡ asked call.Open owner true before)
-OpensAs (File file size) owner path before after = (time : ℕ) × OpensFile file.0 size time owner path before after
-OpensAs NoMemory owner path before after = after ≡ before
+OpensAs (Error status) owner place before after = (status ≡ 500) × (after ≡ asked call.Open owner true before)
+OpensAs (File file size) owner place before after = (time : ℕ) × OpensFile file.0 size time owner place before after
+OpensAs NoMemory owner place before after = after ≡ before
 
 -- a file has fewer than 2^62 bytes
 abbrev pub PlansWithin : Planned → Type 0

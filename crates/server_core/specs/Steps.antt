@@ -1,24 +1,58 @@
 -- What a step leaves of a client.
-use Rattle.std.specs.Prelude.{◌≡◌, ℕ, List, Option, Some, None}
+use Rattle.std.specs.Prelude.{◌≡◌, ℕ, drop, true, false, Bool, List, Option, Some, None, if◌then◌else◌}
 use Rattle.lt_world.specs.declared.net.Ending.{Ending}
 use Rattle.lt_world.specs.declared.net.Ending.TheVariants as ending
 use Rattle.lt_world.specs.declared.net.Owner.{Owner}
 use Rattle.lt_world.specs.Disk.{Disk}
 use Rattle.chunkqueue.specs.Items.{Item}
-use Rattle.server_model.specs.Held.{Held}
+use Rattle.server_model.specs.Held.{Stage, Awaiting, Heading, Taking, Asking, Answering, Held}
 use Rattle.server_model.specs.Serves.{IsWaiting}
-use Rattle.server_model.specs.Steps.{answered}
+use Rattle.server_model.specs.Steps.{advanced, answered, holding, has_no_items}
 use Rattle.server_model.specs.Turns.{Seen, ReadFailed}
 
--- one that stays open has no request that is to be answered
+-- no head waits for the limit of its body, and no request for its reply
+abbrev pub is_idle : Stage → Bool
+is_idle (Awaiting k) = true
+is_idle (Heading k head) = false
+is_idle (Taking k head s content) = true
+is_idle (Asking k r) = false
+is_idle (Answering k last) = true
+
+-- a file is kept only for what is owed of it
+abbrev pub IsFreeAt : Stage → List Item → Option ℕ → Type 0
+IsFreeAt (Awaiting k) owed file = file ≡ None
+IsFreeAt (Heading k head) owed file = file ≡ None
+IsFreeAt (Taking k head s content) owed file = file ≡ None
+IsFreeAt (Asking k r) owed file = file ≡ None
+IsFreeAt (Answering k last) owed file = has_no_items owed ≡ true → file ≡ None
+
+abbrev pub IsFree : Held → Type 0
+IsFree held = IsFreeAt held.stage held.owed held.file
+
+-- it took the step that the bytes which came allow
+pub record IsAdvanced (held : Held) : Type 0 where
+  pub before : Held
+  pub idle : is_idle before.stage ≡ true
+  pub free : IsFree before
+  pub is : held ≡ advanced before
+
+-- no request is to be answered
+abbrev pub IsResting : Held → Type 0
+IsResting held = IsWaiting held × IsFree held
+
+-- one that stays open
 abbrev pub WaitsOn : Option Ending → Held → Type 0
-WaitsOn None held = IsWaiting held.stage held.input
+WaitsOn None held = IsResting held
 WaitsOn (Some e) held = Unit {0}
 
--- it is answered by these items, of this file, or memory is wanted
-abbrev pub GivenBy : Option Ending → Held → Held → List ℕ → List Item → Option ℕ → Type 0
-GivenBy None old new rest items file = new ≡ answered old rest items file
-GivenBy (Some e) old new rest items file = (e ≡ ending.NoMemory) × (new.link ≡ old.link) × (new.file ≡ file)
+-- it is answered by these items, of this file, with the last reply or not; or memory is wanted
+abbrev pub GivenBy : Option Ending → Held → Held → List Item → Option ℕ → Bool → Type 0
+GivenBy None old new items file last = new ≡ answered old items file last
+GivenBy (Some e) old new items file last = (e ≡ ending.NoMemory) × (new ≡ holding old file)
+
+-- the file that is given back as it takes so many bytes
+abbrev pub done_file : Held → ℕ → Option ℕ
+done_file held n = if has_no_items (drop n held.owed) then held.file else None
 
 abbrev pub seen_as : Disk → ℕ → Option Owner → Seen
 seen_as disk faults failed_read = record { disk = disk; faults = faults; failed_read = failed_read }

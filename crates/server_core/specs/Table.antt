@@ -4,8 +4,8 @@ use Rattle.lt_world.specs.Disk.{Disk, released}
 use Rattle.buffer_pool.specs.State.{PoolState}
 use Rattle.buffer_pool.specs.Kept.{HeldWithin}
 use Rattle.server_model.specs.Held.{Held, Serving}
-use Rattle.server_model.specs.Serves.{IsWaiting}
-use Rattle.server_core.specs.Connection.{Connected}
+use Rattle.connection.specs.Connection.{Connected}
+use Rattle.server_core.specs.Steps.{IsResting}
 
 -- what is kept for the clients
 abbrev pub helds : List Connected → List Held
@@ -30,15 +30,15 @@ Rising [] = Unit {0}
 Rising (held ∷ table) = AllAbove held.link table × Rising table
 
 -- no request is to be answered
-abbrev pub AllWaiting : List Held → Type 0
-AllWaiting [] = Unit {0}
-AllWaiting (held ∷ table) = IsWaiting held.stage held.input × AllWaiting table
+abbrev pub AllResting : List Held → Type 0
+AllResting [] = Unit {0}
+AllResting (held ∷ table) = IsResting held × AllResting table
 
 -- how the clients stand between two turns
 pub record IsKept (store : PoolState) (conns : List Connected) : Type 0 where
   pub counted : HeldWithin store (held_count conns)
   pub rising : Rising (helds conns)
-  pub waiting : AllWaiting (helds conns)
+  pub resting : AllResting (helds conns)
 
 -- after this file was given back
 abbrev pub freed : Option ℕ → Disk → Disk

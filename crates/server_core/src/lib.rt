@@ -5,10 +5,9 @@
 //! Closing is explicit: a server can't be dropped.
 #![tactic(auto)]
 
-mod connection;
+mod form;
 mod plan;
 mod replies;
-mod request_line;
 mod server;
 mod settle;
 mod site;

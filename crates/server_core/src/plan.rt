@@ -1,8 +1,10 @@
-//! What a request's path gets: a find, and an open where a file stands there.
+//! What a request gets: a find at its path, and an open where a file stands there.
 ghost use Rattle.std.specs.Prelude.{◌≡◌, ◌++◌, ◌≤◌, IfOk};
 ghost use Rattle.server_core.specs.Planned.{Plans, PlansWithin, OpensAs};
 ghost use Rattle.lt_world.specs.Disk.{IsFileAt};
 
+use crate::form::is_served;
+use http_head::Request;
 use lt_bytes::{NoMemory, Text};
 use lt_world::{FileId, Files, Found, Opened, Owner};
 use std::alloc::Global;
@@ -16,25 +18,29 @@ pub(crate) enum Planned {
     NoMemory,
 }
 
-/// Asks the files what stands at a path below the document root.
+/// Asks the files what stands at the request's path below the document root.
 pub(crate) fn plan<F: Files>(
     alloc: Global,
     root: &[u8],
-    path: &[u8],
+    request: &Request,
     files: &mut F,
     owner: Owner,
 ) -> Planned
-    ensures plans { F.tells → Plans result root.now owner.conn owner.request path.now (F.disk files.old) (F.disk files.new) }
+    ensures plans { F.tells → Plans result root.now owner.conn owner.request request.now (F.disk files.old) (F.disk files.new) }
     ensures within { PlansWithin result }
     ensures faults { F.faults files.old ≤ F.faults files.new }
-    ensures failed_read { F.tells → F.failed_read files.new ≡ F.failed_read files.old }
     ensures later { F.later files.old files.new }
 {
-    let Ok(place) = place_of(alloc, root, path) else {
+    let Ok(place) = place_of(alloc, root, request.target.path.bytes()) else {
         return Planned::NoMemory;
     };
     match files.find(owner, place.bytes()) {
-        Found::File { size: _, time: _ } => open(place.bytes(), files, owner),
+        Found::File { size: _, time: _ } => {
+            if !is_served(request) {
+                return Planned::Error(405);
+            }
+            open(place.bytes(), files, owner)
+        }
         Found::Directory => Planned::Error(404),
         Found::Missing => Planned::Error(404),
         Found::Failed => Planned::Error(500),
@@ -47,7 +53,6 @@ fn open<F: Files>(place: &[u8], files: &mut F, owner: Owner) -> Planned
     ensures opens { F.tells → OpensAs result owner place.now (F.disk files.old) (F.disk files.new) }
     ensures within { PlansWithin result }
     ensures faults { F.faults files.old ≤ F.faults files.new }
-    ensures failed_read { F.tells → F.failed_read files.new ≡ F.failed_read files.old }
     ensures later { F.later files.old files.new }
 {
     match files.open(owner, place) {

@@ -1,7 +1,8 @@
 //! The replies that the server spells.
-ghost use Rattle.std.specs.Prelude.{◌≡◌, ◌≤◌, [], length, IfOk, true, false, codes};
-ghost use Rattle.server_model.specs.Reply.{error_bytes, file_head, file_fields};
+ghost use Rattle.std.specs.Prelude.{◌≡◌, ◌≤◌, ◌<◌, ◌&&◌, ◌==◌, [], ◌∷◌, length, not, IfOk, codes};
+ghost use Rattle.server_model.specs.Reply.{error_bytes, error_fields, file_head, file_fields};
 
+use crate::form::Form;
 use http_reply::{Fields, Spelling, error_reply, reply_head};
 use lt_bytes::{NoMemory, Text};
 use std::alloc::Global;
@@ -11,39 +12,55 @@ pub(crate) const REPLY_LIMIT: usize = 65_536;
 
 const TAG: &[u8; 8] = b"lighttpd";
 
-/// The fields of an error reply, and those before a file.
+/// The fields of an error reply, those that name what is allowed instead, and those before a file.
 #[derive(Drop)]
 pub(crate) struct Replies {
     error: Fields,
+    allowed: Fields,
     content: Fields,
     ghost error_is: { error ≡ [] },
+    ghost allowed_is: { allowed ≡ (codes "Allow", codes "GET, HEAD") ∷ [] },
     ghost content_is: { content ≡ file_fields },
 }
 
 impl Replies {
     pub(crate) fn new(alloc: Global) -> Result<Replies, NoMemory> {
+        let mut allowed = Fields::new(alloc);
+        allowed.add(b"Allow", b"GET, HEAD")?;
         let mut content = Fields::new(alloc);
         content.add(b"Content-Type", b"application/octet-stream")?;
         Ok(Replies {
             error: Fields::new(alloc),
+            allowed,
             content,
         })
     }
 
+    fn error_fields(&self, status: u16) -> &Fields
+        ensures { result.now ≡ error_fields status }
+    {
+        if status == 405 {
+            &self.allowed
+        } else {
+            &self.error
+        }
+    }
+
     /// An error reply, whole.
-    pub(crate) fn error(&self, alloc: Global, status: u16) -> Result<Text, NoMemory>
-        ensures spelled { IfOk result (λ text. text ≡ error_bytes status) }
+    pub(crate) fn error(&self, alloc: Global, form: Form, status: u16) -> Result<Text, NoMemory>
+        ensures spelled { IfOk result (λ text. text ≡ error_bytes form.minor status form.last form.head_only) }
         ensures short { IfOk result (λ text. length text ≤ REPLY_LIMIT) }
     {
-        short(error_reply(alloc, &last(status, None), &self.error, false)?)
+        let spelling = spelling(form, status, None);
+        short(error_reply(alloc, &spelling, self.error_fields(status), form.head_only)?)
     }
 
     /// The head before a file of so many bytes.
-    pub(crate) fn file_head(&self, alloc: Global, size: u64) -> Result<Text, NoMemory>
-        ensures spelled { IfOk result (λ text. text ≡ file_head size) }
+    pub(crate) fn file_head(&self, alloc: Global, form: Form, size: u64) -> Result<Text, NoMemory>
+        ensures spelled { IfOk result (λ text. text ≡ file_head form.minor size form.last) }
         ensures short { IfOk result (λ text. length text ≤ REPLY_LIMIT) }
     {
-        short(reply_head(alloc, &last(200, Some(size)), &self.content)?)
+        short(reply_head(alloc, &spelling(form, 200, Some(size)), &self.content)?)
     }
 }
 
@@ -58,21 +75,21 @@ fn short(text: Text) -> Result<Text, NoMemory>
     Err(NoMemory)
 }
 
-// A reply that is the last.
-fn last(status: u16, length: Option<u64>) -> Spelling<'static>
-    ensures minor { result.minor ≡ 1 }
+// HTTP/1.0 is told that its connection is kept.
+fn spelling(form: Form, status: u16, length: Option<u64>) -> Spelling<'static>
+    ensures minor { result.minor ≡ form.minor }
     ensures status { result.status ≡ status }
     ensures length { result.length ≡ length }
-    ensures last { result.last ≡ true }
-    ensures keep { result.keep ≡ false }
+    ensures last { result.last ≡ form.last }
+    ensures keep { result.keep ≡ (not form.last && form.minor == 0) }
     ensures tag { result.tag.now ≡ codes "lighttpd" }
 {
     Spelling {
-        minor: 1,
+        minor: form.minor,
         status,
         length,
-        last: true,
-        keep: false,
+        last: form.last,
+        keep: !form.last && form.minor == 0,
         tag: TAG,
     }
 }

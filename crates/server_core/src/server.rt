@@ -9,13 +9,13 @@ ghost use Rattle.server_core.specs.Steps.{seen_as};
 ghost use Rattle.server_core.specs.Table.{helds, held_count, all_freed};
 ghost use Rattle.server_core.specs.Turns.{Turned, OnRest, KindFits, Uses};
 
-use crate::connection::Conn;
 use crate::replies::Replies;
 use crate::site::Site;
 use crate::step::release;
 use crate::table::{accept_on, read_on, write_on};
 use crate::turn::Turn;
 use chunkqueue::Store;
+use connection::Conn;
 use lt_bytes::{NoMemory, Text};
 use lt_world::{Event, Files, Net};
 use std::alloc::Global;
@@ -89,15 +89,7 @@ impl Server {
     {
         match net.next() {
             Event::Arrived { link, peer, local } => {
-                accept_on(
-                    self.site.alloc,
-                    &mut self.conns,
-                    net,
-                    files,
-                    link,
-                    peer,
-                    local,
-                );
+                accept_on(&mut self.conns, &self.site, net, files, link, peer, local);
                 Turn::Did
             }
             Event::Readable(link) => {
@@ -112,7 +104,14 @@ impl Server {
                 Turn::Did
             }
             Event::Writable(link) => {
-                write_on(&mut self.conns, &mut self.store, net, files, link);
+                write_on(
+                    &mut self.conns,
+                    &self.site,
+                    &mut self.store,
+                    net,
+                    files,
+                    link,
+                );
                 Turn::Did
             }
             Event::Idle => Turn::Idle,
@@ -151,8 +150,7 @@ fn give_back<F: Files>(conns: &mut Vec<Conn>, store: &mut Store, files: &mut F)
     ensures failed_read { F.tells → F.failed_read files.new ≡ F.failed_read files.old }
     ensures later { F.later files.old files.new }
 {
-    while let Some(mut conn) = conns.pop() {
-        release(&mut conn, files);
-        conn.close(store);
+    while let Some(conn) = conns.pop() {
+        release(conn, store, files);
     }
 }

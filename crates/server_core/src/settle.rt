@@ -1,39 +1,71 @@
-//! What follows once bytes came: a request that is whole by then is answered.
-ghost use Rattle.std.specs.Prelude.{◌≡◌, ◌+◌, ◌≤◌, ◌<◌, ◌^◌, ℕ, List, [], length, map, take, drop, None, true};
+//! What follows once bytes came or were taken: a request that is there by then is answered.
+ghost use Rattle.std.specs.Prelude.{◌≡◌, ◌≢◌, ℕ, ◌+◌, ◌-◌, ◌≤◌, ◌<◌, ◌^◌, ◌++◌, List, [], length, map, None, true, false};
 ghost use Rattle.buffer_pool.specs.Kept.{Kept, HeldWithin};
 ghost use Rattle.lt_world.specs.Disk.{Disk};
-ghost use Rattle.chunkqueue.specs.Items.{Byte};
-ghost use Rattle.server_model.specs.Request.{Complete, head_end, request_of};
+ghost use Rattle.chunkqueue.specs.Items.{Byte, items_of, staged_of, count_of};
+ghost use Rattle.server_model.specs.Request.{Head, Complete};
+ghost use Rattle.server_model.specs.Held.{Asking};
 ghost use Rattle.server_model.specs.Planning.{PlansFile};
 ghost use Rattle.server_model.specs.Reply.{error_bytes};
+ghost use Rattle.server_model.specs.Files.{Fits};
 ghost use Rattle.server_model.specs.Settling.{SettlesTo};
-ghost use Rattle.server_model.specs.Steps.{wants_read, number_of};
-ghost use Rattle.server_core.specs.Connection.{file_number, reply_items};
+ghost use Rattle.server_model.specs.Steps.{looks, number_of};
+ghost use Rattle.connection.specs.Connection.{file_number, IsBodyOf};
+ghost use Rattle.connection.specs.Stages.{stage_of, is_asking};
+ghost use Rattle.connection.specs.declared.stage.Stage.TheVariants as next;
+ghost use Rattle.server_core.specs.Form.{form_of};
 ghost use Rattle.server_core.specs.Planned.{Plans, PlansWithin};
-ghost use Rattle.server_core.specs.Steps.{WaitsOn, GivenBy};
+ghost use Rattle.server_core.specs.Steps.{is_idle, IsFree, IsAdvanced, WaitsOn, GivenBy};
 
-use crate::connection::Conn;
+use crate::form::Form;
 use crate::plan::{Planned, plan};
-use crate::request_line::{Asked, HEAD_LIMIT, read_request};
 use crate::site::Site;
-use chunkqueue::Store;
+use chunkqueue::{Chunks, Queue, Store};
+use connection::{Conn, Stage};
 use lt_world::{Ending, FileId, Files};
 
-/// Answers the request that is whole by now, if one is, where no head ends within three bytes behind an index. Answers how
-/// the client is to be closed, where it is.
-pub(crate) fn respond<F: Files>(
+/// Bytes of a request's body, at most: the default of `server.max-request-size`, 1,024 KiB.
+const BODY_LIMIT: u64 = 1_048_576;
+
+/// Takes the next step that the bytes which came allow, and answers the request that is there then. Answers how the client
+/// is to be closed, where it is.
+pub(crate) fn settle<F: Files>(
     conn: &mut Conn,
     site: &Site,
     store: &mut Store,
     files: &mut F,
-    from: usize,
 ) -> Option<Ending>
     requires counted { HeldWithin store.old (length conn.old.numbers) }
-    requires wants { wants_read conn.old.held ≡ true }
-    requires file { conn.old.held.file ≡ None }
-    requires owed { conn.old.held.owed ≡ [] }
-    requires unread { head_end (take (from + 3) conn.old.held.input) ≡ None }
-    requires within { length conn.old.held.input ≤ HEAD_LIMIT }
+    requires idle { is_idle conn.old.held.stage ≡ true }
+    requires free { IsFree conn.old.held }
+    requires fits { F.tells → Fits (F.disk files.old).table conn.old.held }
+    ensures settles { SettlesTo (looks conn.old.held) site.now.root conn.old.held conn.new.held result F.tells (F.disk files.old) (F.disk files.new) }
+    ensures link { conn.new.held.link ≡ conn.old.held.link }
+    ensures waits { WaitsOn result conn.new.held }
+    ensures kept { Kept store.old conn.old.numbers store.new conn.new.numbers }
+    ensures faults { F.faults files.old ≤ F.faults files.new }
+    ensures later { F.later files.old files.new }
+{
+    let Ok(stage) = conn.advance(store) else {
+        return Some(Ending::NoMemory);
+    };
+    match stage {
+        Stage::Head => read_body(conn, site, store, files),
+        _ => go_on(conn, site, store, files, stage),
+    }
+}
+
+// The head of a request is there: as much of its body is read as came.
+fn read_body<F: Files>(
+    conn: &mut Conn,
+    site: &Site,
+    store: &mut Store,
+    files: &mut F,
+) -> Option<Ending>
+    requires counted { HeldWithin store.old (length conn.old.numbers) }
+    requires heading { stage_of conn.old.held ≡ next.Head }
+    requires free { IsFree conn.old.held }
+    requires fits { F.tells → Fits (F.disk files.old).table conn.old.held }
     ensures settles { SettlesTo true site.now.root conn.old.held conn.new.held result F.tells (F.disk files.old) (F.disk files.new) }
     ensures link { conn.new.held.link ≡ conn.old.held.link }
     ensures waits { WaitsOn result conn.new.held }
@@ -41,32 +73,94 @@ pub(crate) fn respond<F: Files>(
     ensures faults { F.faults files.old ≤ F.faults files.new }
     ensures later { F.later files.old files.new }
 {
-    match read_request(conn.input(), from) {
-        Asked::Unfinished => None,
-        Asked::Refused => refuse(conn, site, store, 501, 0),
-        Asked::Complete { path, length } => {
-            let planned = plan(site.alloc, site.root.bytes(), path, files, conn.owner());
-            serve(conn, site, store, files, planned, length)
+    let Ok(()) = conn.accept_body(store, BODY_LIMIT) else {
+        return Some(Ending::NoMemory);
+    };
+    let Ok(stage) = conn.advance(store) else {
+        return Some(Ending::NoMemory);
+    };
+    go_on(conn, site, store, files, stage)
+}
+
+// Does what the bytes that came call for.
+fn go_on<F: Files>(
+    conn: &mut Conn,
+    site: &Site,
+    store: &mut Store,
+    files: &mut F,
+    stage: Stage,
+) -> Option<Ending>
+    requires counted { HeldWithin store.old (length conn.old.numbers) }
+    requires advanced { IsAdvanced conn.old.held }
+    requires stage { stage ≡ stage_of conn.old.held }
+    requires read { stage ≢ next.Head }
+    requires fits { F.tells → Fits (F.disk files.old).table conn.old.held }
+    // Memory may be wanted only for an answer.
+    ensures settles { SettlesTo (is_asking conn.old.held.stage) site.now.root conn.old.held conn.new.held result F.tells (F.disk files.old) (F.disk files.new) }
+    ensures link { conn.new.held.link ≡ conn.old.held.link }
+    ensures waits { WaitsOn result conn.new.held }
+    ensures kept { Kept store.old conn.old.numbers store.new conn.new.numbers }
+    ensures faults { F.faults files.old ≤ F.faults files.new }
+    ensures later { F.later files.old files.new }
+{
+    match stage {
+        Stage::Waiting => None,
+        Stage::Writing => None,
+        // Its body was accepted by now.
+        Stage::Head => None,
+        Stage::Finished => Some(Ending::Clean),
+        Stage::Refused(status) => {
+            let form = Form::of_refused(conn.request());
+            refuse(conn, site, store, form, status)
         }
+        Stage::Whole => respond(conn, site, store, files),
     }
 }
 
-// Answers as is planned, after a request of so many bytes.
+// Answers the request that is there.
+fn respond<F: Files>(
+    conn: &mut Conn,
+    site: &Site,
+    store: &mut Store,
+    files: &mut F,
+) -> Option<Ending>
+    requires counted { HeldWithin store.old (length conn.old.numbers) }
+    requires whole { stage_of conn.old.held ≡ next.Whole }
+    requires file { conn.old.held.file ≡ None }
+    requires fits { F.tells → Fits (F.disk files.old).table conn.old.held }
+    ensures settles { SettlesTo true site.now.root conn.old.held conn.new.held result F.tells (F.disk files.old) (F.disk files.new) }
+    ensures link { conn.new.held.link ≡ conn.old.held.link }
+    ensures waits { WaitsOn result conn.new.held }
+    ensures kept { Kept store.old conn.old.numbers store.new conn.new.numbers }
+    ensures faults { F.faults files.old ≤ F.faults files.new }
+    ensures later { F.later files.old files.new }
+{
+    let owner = conn.owner();
+    let Some(request) = conn.request() else {
+        return None;
+    };
+    let form = Form::of(request, owner.request);
+    let planned = plan(site.alloc, site.root.bytes(), request, files, owner);
+    serve(conn, site, store, files, form, planned)
+}
+
+// Answers as is planned.
 fn serve<F: Files>(
     conn: &mut Conn,
     site: &Site,
     store: &mut Store,
     files: &mut F,
+    form: Form,
     planned: Planned,
-    taken: usize,
 ) -> Option<Ending>
     requires counted { HeldWithin store.old (length conn.old.numbers) }
-    requires wants { wants_read conn.old.held ≡ true }
+    requires asking { is_asking conn.old.held.stage ≡ true }
     requires file { conn.old.held.file ≡ None }
-    requires taken { taken ≤ length conn.old.held.input }
+    requires number { form.last ≡ false → number_of conn.old.held.stage < 2 ^ 32 - 1 }
     requires within { PlansWithin planned }
-    ensures settles { (before : Disk) (path : List ℕ) → request_of conn.old.held.input ≡ Complete path (drop taken conn.old.held.input) →
-        (F.tells → Plans planned site.now.root conn.old.held.link (number_of conn.old.held.stage) path before (F.disk files.old)) →
+    ensures settles { (before : Disk) (head : Head) (content : List ℕ) → conn.old.held.stage ≡ Asking (number_of conn.old.held.stage) (Complete head content) → form ≡ form_of (number_of conn.old.held.stage) head →
+        (F.tells → Fits before.table conn.old.held) →
+        (F.tells → Plans planned site.now.root conn.old.held.link (number_of conn.old.held.stage) head before (F.disk files.old)) →
         SettlesTo true site.now.root conn.old.held conn.new.held result F.tells before (F.disk files.new) }
     ensures link { conn.new.held.link ≡ conn.old.held.link }
     ensures waits { WaitsOn result conn.new.held }
@@ -75,52 +169,53 @@ fn serve<F: Files>(
     ensures later { F.later files.old files.new }
 {
     match planned {
-        Planned::Error(status) => refuse(conn, site, store, status, taken),
-        Planned::File { file, size } => send_file(conn, site, store, files, file, size, taken),
+        Planned::Error(status) => refuse(conn, site, store, form, status),
+        Planned::File { file, size } => send_file(conn, site, store, files, form, file, size),
         Planned::NoMemory => Some(Ending::NoMemory),
     }
 }
 
-// Answers with an error, after a request of so many bytes.
+// Answers with an error.
 fn refuse(
     conn: &mut Conn,
     site: &Site,
     store: &mut Store,
+    form: Form,
     status: u16,
-    taken: usize,
 ) -> Option<Ending>
     requires counted { HeldWithin store.old (length conn.old.numbers) }
-    requires wants { wants_read conn.old.held ≡ true }
+    requires asking { is_asking conn.old.held.stage ≡ true }
     requires file { conn.old.held.file ≡ None }
-    requires taken { taken ≤ length conn.old.held.input }
-    ensures given { GivenBy result conn.old.held conn.new.held (drop taken conn.old.held.input) (map Byte (error_bytes status)) None }
+    requires number { form.last ≡ false → number_of conn.old.held.stage < 2 ^ 32 - 1 }
+    ensures given { GivenBy result conn.old.held conn.new.held (map Byte (error_bytes form.minor status form.last form.head_only)) None form.last }
     ensures link { conn.new.held.link ≡ conn.old.held.link }
     ensures waits { WaitsOn result conn.new.held }
     ensures kept { Kept store.old conn.old.numbers store.new conn.new.numbers }
 {
-    let Ok(text) = site.replies.error(site.alloc, status) else {
+    let Ok(text) = site.replies.error(site.alloc, form, status) else {
         return Some(Ending::NoMemory);
     };
-    give(conn, store, taken, text.bytes(), None, 0)
+    give(conn, store, text.bytes(), Chunks::new(), None, form.last)
 }
 
-// Answers with the bytes of an opened file, after a request of so many bytes.
+// Answers with the bytes of an opened file, or with their number alone.
 fn send_file<F: Files>(
     conn: &mut Conn,
     site: &Site,
     store: &mut Store,
     files: &mut F,
+    form: Form,
     file: FileId,
     size: u64,
-    taken: usize,
 ) -> Option<Ending>
     requires counted { HeldWithin store.old (length conn.old.numbers) }
-    requires wants { wants_read conn.old.held ≡ true }
+    requires asking { is_asking conn.old.held.stage ≡ true }
     requires file { conn.old.held.file ≡ None }
-    requires taken { taken ≤ length conn.old.held.input }
+    requires number { form.last ≡ false → number_of conn.old.held.stage < 2 ^ 32 - 1 }
     requires size { size < 2 ^ 62 }
-    ensures settles { (before : Disk) (path : List ℕ) → request_of conn.old.held.input ≡ Complete path (drop taken conn.old.held.input) →
-        (F.tells → PlansFile file.0 size site.now.root conn.old.held.link (number_of conn.old.held.stage) path before (F.disk files.old)) →
+    ensures settles { (before : Disk) (head : Head) (content : List ℕ) → conn.old.held.stage ≡ Asking (number_of conn.old.held.stage) (Complete head content) → form ≡ form_of (number_of conn.old.held.stage) head →
+        (F.tells → Fits before.table conn.old.held) →
+        (F.tells → PlansFile file.0 size site.now.root conn.old.held.link (number_of conn.old.held.stage) head before (F.disk files.old)) →
         SettlesTo true site.now.root conn.old.held conn.new.held result F.tells before (F.disk files.new) }
     ensures link { conn.new.held.link ≡ conn.old.held.link }
     ensures waits { WaitsOn result conn.new.held }
@@ -128,38 +223,49 @@ fn send_file<F: Files>(
     ensures faults { F.faults files.old ≤ F.faults files.new }
     ensures later { F.later files.old files.new }
 {
-    let Ok(head) = site.replies.file_head(site.alloc, size) else {
+    let Ok(head) = site.replies.file_head(site.alloc, form, size) else {
         files.release(file);
         return Some(Ending::NoMemory);
     };
-    // No byte of an empty file is ever read.
-    if size == 0 {
+    // No byte of the file is ever read.
+    if form.head_only || size == 0 {
         files.release(file);
-        return give(conn, store, taken, head.bytes(), None, 0);
+        return give(conn, store, head.bytes(), Chunks::new(), None, form.last);
     }
-    give(conn, store, taken, head.bytes(), Some(file), size)
+    let mut body = Chunks::new();
+    let Ok(()) = body.push_file(store, file, 0, size) else {
+        files.release(file);
+        body.close(store);
+        return Some(Ending::NoMemory);
+    };
+    give(conn, store, head.bytes(), body, Some(file), form.last)
 }
 
-// Answers a request of so many bytes by bytes and then by a whole file.
+// Answers with a head, and a body that may end in a file.
 fn give(
     conn: &mut Conn,
     store: &mut Store,
-    taken: usize,
     head: &[u8],
+    body: Chunks,
     file: Option<FileId>,
-    size: u64,
+    last: bool,
 ) -> Option<Ending>
-    requires counted { HeldWithin store.old (length conn.old.numbers) }
-    requires wants { wants_read conn.old.held ≡ true }
-    requires taken { taken ≤ length conn.old.held.input }
-    requires head { length head.now < 2 ^ 62 }
-    requires size { size < 2 ^ 62 }
-    ensures given { GivenBy result conn.old.held conn.new.held (drop taken conn.old.held.input) (reply_items head.now (file_number file) size) (file_number file) }
+    requires counted { HeldWithin store.old (length conn.old.numbers + length body.numbers) }
+    requires asking { is_asking conn.old.held.stage ≡ true }
+    requires some { 0 < length head.now }
+    requires body { IsBodyOf (file_number file) (items_of body) }
+    requires unstaged { staged_of body ≡ [] }
+    requires fits { length head.now + count_of body < 2 ^ 62 + 2 ^ 32 }
+    requires number { last ≡ false → number_of conn.old.held.stage < 2 ^ 32 - 1 }
+    ensures given { GivenBy result conn.old.held conn.new.held (map Byte head.now ++ items_of body) (file_number file) last }
     ensures link { conn.new.held.link ≡ conn.old.held.link }
     ensures waits { WaitsOn result conn.new.held }
-    ensures kept { Kept store.old conn.old.numbers store.new conn.new.numbers }
+    ensures kept { Kept store.old (conn.old.numbers ++ body.numbers) store.new conn.new.numbers }
 {
-    match conn.answer(store, taken, head, file, size) {
+    let mut body = body;
+    let given = conn.answer(store, head, &mut body, file, last);
+    body.close(store);
+    match given {
         Ok(()) => None,
         Err(_) => Some(Ending::NoMemory),
     }

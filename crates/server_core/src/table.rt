@@ -1,5 +1,5 @@
 //! The table of clients, in the order of their links, and what each event of a link does in it.
-ghost use Rattle.std.specs.Prelude.{◌≡◌, ◌≤◌, ◌<◌, ℕ, List, [], ◌∷◌};
+ghost use Rattle.std.specs.Prelude.{◌≡◌, ◌≤◌, ◌<◌};
 ghost use Rattle.buffer_pool.specs.State.{PoolState};
 ghost use Rattle.lt_world.specs.Trace.{Accepted, Readable, Writable};
 ghost use Rattle.server_model.specs.Held.{IsPlace};
@@ -8,12 +8,14 @@ ghost use Rattle.server_model.specs.Turns.{TurnsOn};
 ghost use Rattle.server_core.specs.Steps.{seen_as};
 ghost use Rattle.server_core.specs.Table.{helds, serving, Rising, IsKept};
 
-use crate::connection::Conn;
 use crate::site::Site;
 use crate::step::{finish, read_for, write_for};
 use chunkqueue::{BUFFER_SIZE, Store};
+use connection::Conn;
 use lt_world::{Address, Ending, Files, Link, Net};
-use std::alloc::Global;
+
+/// Clients that are open at once, at most.
+const CONNECTION_LIMIT: usize = 256;
 
 // The place of a link, found without a look at every client.
 fn place(conns: &[Conn], link: Link) -> Option<usize>
@@ -37,10 +39,10 @@ fn place(conns: &[Conn], link: Link) -> Option<usize>
     None
 }
 
-/// A client arrives. It is refused where there is no memory to keep it.
+/// A client arrives. It is closed at once where the limit is reached, or where there is no memory to keep it.
 pub(crate) fn accept_on<N: Net, F: Files>(
-    alloc: Global,
     conns: &mut Vec<Conn>,
+    site: &Site,
     net: &mut N,
     files: &F,
     link: Link,
@@ -51,7 +53,7 @@ pub(crate) fn accept_on<N: Net, F: Files>(
     requires known { link.0 < N.links net.old }
     requires table { IsTable link.0 (helds conns.old.items) }
     requires backs { F.tells → Backs (F.disk files.now).table (helds conns.old.items) }
-    ensures turn { (root : List ℕ) → TurnsOn (Accepted peer local) link.0 (serving root conns.old.items) (serving root conns.new.items) N.tells F.tells
+    ensures turn { TurnsOn (Accepted peer local) link.0 (serving site.now.root conns.old.items) (serving site.now.root conns.new.items) N.tells F.tells
         (seen_as (F.disk files.now) (F.faults files.now) (F.failed_read files.now)) (seen_as (F.disk files.now) (F.faults files.now) (F.failed_read files.now))
         (N.trace net.old) (N.trace net.new) }
     ensures kept { (store : PoolState) → IsKept store conns.old.items → IsKept store conns.new.items }
@@ -64,11 +66,15 @@ pub(crate) fn accept_on<N: Net, F: Files>(
     ensures net_later { N.later net.old net.new }
 {
     let _ = files;
+    if conns.len() >= CONNECTION_LIMIT {
+        net.close(link, Ending::Full);
+        return;
+    }
     let Ok(()) = conns.reserve(1) else {
         net.close(link, Ending::NoMemory);
         return;
     };
-    conns.push_reserved(Conn::new(alloc, link, peer, local));
+    conns.push_reserved(Conn::new(site.alloc, link, peer, local));
 }
 
 /// A client may be read from.
@@ -106,13 +112,13 @@ pub(crate) fn read_on<N: Net, F: Files>(
     let Some(ending) = read_for(conn, site, store, net, files) else {
         return;
     };
-    finish(conn, net, files, ending);
-    conns.remove(i).close(store);
+    finish(conns.remove(i), store, net, files, ending);
 }
 
 /// A client may be written to.
 pub(crate) fn write_on<N: Net, F: Files>(
     conns: &mut Vec<Conn>,
+    site: &Site,
     store: &mut Store,
     net: &mut N,
     files: &mut F,
@@ -123,7 +129,7 @@ pub(crate) fn write_on<N: Net, F: Files>(
     requires known { link.0 < N.links net.old }
     requires kept { IsKept store.old conns.old.items }
     requires backs { F.tells → Backs (F.disk files.old).table (helds conns.old.items) }
-    ensures turn { (root : List ℕ) → TurnsOn Writable link.0 (serving root conns.old.items) (serving root conns.new.items) N.tells F.tells
+    ensures turn { TurnsOn Writable link.0 (serving site.now.root conns.old.items) (serving site.now.root conns.new.items) N.tells F.tells
         (seen_as (F.disk files.old) (F.faults files.old) (F.failed_read files.old)) (seen_as (F.disk files.new) (F.faults files.new) (F.failed_read files.new))
         (N.trace net.old) (N.trace net.new) }
     ensures kept { IsKept store.new conns.new.items }
@@ -141,9 +147,8 @@ pub(crate) fn write_on<N: Net, F: Files>(
         return;
     };
     let conn = &mut conns[i];
-    let Some(ending) = write_for(conn, store, net, files) else {
+    let Some(ending) = write_for(conn, site, store, net, files) else {
         return;
     };
-    finish(conn, net, files, ending);
-    conns.remove(i).close(store);
+    finish(conns.remove(i), store, net, files, ending);
 }

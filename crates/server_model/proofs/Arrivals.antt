@@ -1,7 +1,8 @@
--- A client that arrives, and one that is refused for want of memory.
-use Rattle.std.proofs.Common.{◌≡◌, ℕ, List, [], ◌∷◌, ◌++◌, Option, Some, None, true, false, refl, sym, ◌∙◌, ap, subst, arith, inl, inr}
+-- A client that arrives, and one that is closed at once: for want of memory, or as one too many.
+use Rattle.std.proofs.Common.{◌≡◌, ℕ, zero, suc, ◌≤◌, ◌<◌, length, List, [], ◌∷◌, ◌++◌, Option, Some, None, true, false, refl, sym, ◌∙◌, ap, subst, arith, inl, inr}
 use Rattle.std.proofs.lemmas.Bool.{cases_eq}
 use Rattle.lt_world.specs.declared.net.Address.{Address}
+use Rattle.lt_world.specs.declared.net.Ending.{Ending}
 use Rattle.lt_world.specs.declared.net.Ending.TheVariants as ending
 use Rattle.lt_world.specs.declared.files.FileCall.{FileCall}
 use Rattle.lt_world.specs.Disk.{Disk}
@@ -10,22 +11,28 @@ use Rattle.server_model.specs.Request.{request_of, is_complete}
 use Rattle.server_model.specs.Plan.{World, world_of, call_count}
 use Rattle.server_model.specs.Stream.{left_after}
 use Rattle.server_model.specs.Deeds.{Deed, Ours, own, told}
+use Rattle.server_model.specs.Open.{open_clients}
 use Rattle.server_model.specs.Client.{IsServedRight}
 use Rattle.server_model.specs.Held.{Held, kept_at}
 use Rattle.server_model.specs.Steps.{arrived}
 use Rattle.server_model.specs.Files.{file_of, FitsFor, Backs, FileStep}
-use Rattle.server_model.specs.Serves.{Stands, IsGone, StandsFor, Serves}
-use Rattle.server_model.specs.Due.{DueArrival}
+use Rattle.server_model.specs.Serves.{Matches, Stands, IsGone, StandsFor, Serves}
+use Rattle.server_model.specs.Due.{connection_limit, DueArrival}
 use Rattle.server_model.specs.Turns.{Seen, TurnsOn}
 use Rattle.server_model.proofs.Owned.{own-told, own_unnamed}
 use Rattle.server_model.proofs.FileSteps.{same_files}
 use Rattle.server_model.proofs.Frames.{frame, backs_on}
-use Rattle.server_model.proofs.Changing.{Changes, adds, leaves}
+use Rattle.server_model.proofs.Changing.{Changes, kept_count, adds, leaves}
 use Rattle.server_model.proofs.Turning.{grows_none}
-use Rattle.server_model.proofs.Replying.{first_alone}
-use Rattle.server_model.proofs.Clients.{AwaitsFirst, awaits_matches}
+use Rattle.server_model.proofs.Requests.{request_of_nil, unfinished_rest}
 use Rattle.server_model.proofs.Moves.{arrives}
-use Rattle.server_model.proofs.Settled.{awaits_right, awaits_unfinished, closes}
+use Rattle.server_model.proofs.Settled.{closes}
+use Rattle.server_model.proofs.Standing.{matches_right, matches_stands}
+
+-- nothing follows nothing
+left_nil : (k : ℕ) → left_after k [] ≡ []
+left_nil zero = refl
+left_nil (suc k) = ap (left_after k) (unfinished_rest [] request_of_nil) ∙ left_nil k
 
 -- nothing was asked for a client of which nothing came
 pub nothing_asked : (world : World) → IsServedRight world [] → (k : ℕ) (what : FileCall) → call_count world k what ≡ 0
@@ -33,34 +40,26 @@ nothing_asked world right k what = elim (cases_eq (call_count world k what) 0) [
   | inl none ↦ none
   | inr some ↦
       let p = right.right.in_turn k what (omega (arith, some)) in
-      let first = (first_alone world [] k p.before p.passed).0 in
-      let whole : is_complete (request_of []) ≡ true = sym (ap (λ (j : ℕ). is_complete (request_of (left_after j []))) first) ∙ p.whole in
+      let whole : false ≡ true = ap is_complete (sym (ap request_of (left_nil k) ∙ request_of_nil)) ∙ p.whole in
       absurd (cc (whole))
 ]
 
 module _ (root : List ℕ) (link : ℕ) (peer local : Address) (disk : Disk) (table : List Held) (trace : List Entry)
     (none : kept_at link table ≡ None) (new : names link trace ≡ false) (serves : Serves disk (record { root = root; table = table }) trace) where
-  world : World
-  world = world_of root disk link
-
   unasked : (k : ℕ) (what : FileCall) → call_count (world_of root disk link) k what ≡ 0
   unasked =
       let P : Option Held → Type 0 = λ k. StandsFor disk.table (world_of root disk link) k (own link trace) in
       let gone : IsGone (world_of root disk link) (own link trace) = subst P none (serves.each link) in
       nothing_asked (world_of root disk link) (subst (IsServedRight (world_of root disk link)) (own_unnamed link trace new) gone.right)
 
-  first : AwaitsFirst (world_of root disk link) (arrived link peer local) (Accepted peer local ∷ [])
-  first = arrives (world_of root disk link) link peer local unasked
+  first : Matches disk.table (world_of root disk link) (arrived link peer local) (Accepted peer local ∷ [])
+  first = arrives disk.table (world_of root disk link) link peer local unasked
 
   pub came_stands : Stands disk.table (world_of root disk link) (arrived link peer local) (Accepted peer local ∷ [])
-  came_stands = record {
-    matches = awaits_matches disk.table (world_of root disk link) (arrived link peer local) (Accepted peer local ∷ []) first;
-    waiting = refl;
-    unfinished = awaits_unfinished (world_of root disk link) (arrived link peer local) (Accepted peer local ∷ []) first refl refl;
-  }
+  came_stands = matches_stands disk.table (world_of root disk link) (arrived link peer local) (Accepted peer local ∷ []) first request_of_nil refl
 
-  pub refused_gone : IsGone (world_of root disk link) (Ours (Close ending.NoMemory) ∷ Ours (Accepted peer local) ∷ [])
-  refused_gone = closes (world_of root disk link) (Ours (Accepted peer local) ∷ []) ending.NoMemory (awaits_right (world_of root disk link) (arrived link peer local) (Accepted peer local ∷ []) first) (λ e. absurd (cc (e)))
+  pub closed_gone : (e : Ending) → (e ≡ ending.Clean → ⊥) → IsGone (world_of root disk link) (Ours (Close e) ∷ Ours (Accepted peer local) ∷ [])
+  closed_gone e unclean = closes (world_of root disk link) (Ours (Accepted peer local) ∷ []) e (matches_right disk.table (world_of root disk link) (arrived link peer local) (Accepted peer local ∷ []) first) (λ is. absurd (unclean is))
 
 -- no file is kept for this link, and the files are left as they were
 no_files : (link : ℕ) (disk : Disk) (table next : List Held) (now : Option Held) → kept_at link table ≡ None → kept_at link next ≡ now → file_of now ≡ None → FileStep link (file_of (kept_at link table)) (file_of (kept_at link next)) disk disk
@@ -80,48 +79,66 @@ module _ (link : ℕ) (peer local : Address) (root : List ℕ) (table next : Lis
     pub came_backs : Backs seen.disk.table table → Backs seen.disk.table next
     came_backs backs = backs_on link seen.disk seen.disk table next backs (no_files link seen.disk table next (Some (arrived link peer local)) none came_changes.here refl) (arrived_fits link seen.disk peer local next came_changes.here) came_changes.others
 
-    pub turn_came : (files → Backs seen.disk.table table) → TurnsOn (Accepted peer local) link (record { root = root; table = table }) (record { root = root; table = next }) net files seen seen old old
-    turn_came backs n f trace gained fresh serves =
+    pub turn_came : length table < connection_limit → (files → Backs seen.disk.table table) → TurnsOn (Accepted peer local) link (record { root = root; table = table }) (record { root = root; table = next }) net files seen seen old old
+    turn_came room backs n f trace gained fresh serves =
         let one : own link (told link (Ours (Accepted peer local) ∷ []) trace) ≡ Ours (Accepted peer local) ∷ own link trace = own-told link (Ours (Accepted peer local) ∷ []) trace (refl, tt) in
         let stands = came_stands root link peer local seen.disk table trace none fresh serves in
         let here : StandsFor seen.disk.table (world_of root seen.disk link) (kept_at link next) (Ours (Accepted peer local) ∷ own link trace) =
         subst (λ k. StandsFor seen.disk.table (world_of root seen.disk link) k (Ours (Accepted peer local) ∷ own link trace)) (sym came_changes.here)
         (subst (λ (d : List Deed). StandsFor seen.disk.table (world_of root seen.disk link) (Some (arrived link peer local)) (Ours (Accepted peer local) ∷ d)) (sym (own_unnamed link trace fresh)) stands) in
+        let count : open_clients (told link (Ours (Accepted peer local) ∷ []) trace) ≡ length next = omega (arith, serves.count, came_changes.count, ap kept_count none) in
         let P : List Entry → Type 0 = Serves seen.disk (record { root = root; table = next }) in (
           subst P (sym gained)
               (frame link seen.disk seen.disk table next (backs f) (no_files link seen.disk table next (Some (arrived link peer local)) none came_changes.here refl) (arrived_fits link seen.disk peer local next came_changes.here) came_changes.others
-              root trace (Ours (Accepted peer local) ∷ []) (refl, tt) serves here),
+              root trace (Ours (Accepted peer local) ∷ []) (refl, tt) count serves here),
           record {
             link = link;
             event = Accepted peer local;
             parts = record { client = link; deeds = [] } ∷ [];
             gains = gained;
-            due = (refl, tt, subst (DueArrival peer local (own link trace)) (sym (ap (own link) gained ∙ one)) DueArrival.comes);
+            due = (refl, tt, subst (DueArrival (open_clients trace) peer local (own link trace)) (sym (ap (own link) gained ∙ one)) (DueArrival.comes (omega (arith, room, serves.count))));
             grows = grows_none seen;
           },
         )
 
-  module _ (same : next ≡ table) (gains : net → now ≡ told link (Ours (Close ending.NoMemory) ∷ []) old) where
-    pub turn_refused : (files → Backs seen.disk.table table) → TurnsOn (Accepted peer local) link (record { root = root; table = table }) (record { root = root; table = next }) net files seen seen old now
-    turn_refused backs n f trace gained fresh serves =
-        let two : own link (told link (Ours (Close ending.NoMemory) ∷ Ours (Accepted peer local) ∷ []) trace) ≡ Ours (Close ending.NoMemory) ∷ Ours (Accepted peer local) ∷ own link trace =
-        own-told link (Ours (Close ending.NoMemory) ∷ Ours (Accepted peer local) ∷ []) trace (refl, (refl, tt)) in
-        let gone = refused_gone root link peer local seen.disk table trace none fresh serves in
+  -- it is closed at once
+  module _ (e : Ending) (unclean : e ≡ ending.Clean → ⊥) (due : (past : List Deed) → DueArrival (length table) peer local past (Ours (Close e) ∷ Ours (Accepted peer local) ∷ past)) (same : next ≡ table) (gains : net → now ≡ told link (Ours (Close e) ∷ []) old) where
+    turn_closed : (files → Backs seen.disk.table table) → TurnsOn (Accepted peer local) link (record { root = root; table = table }) (record { root = root; table = next }) net files seen seen old now
+    turn_closed backs n f trace gained fresh serves =
+        let two : own link (told link (Ours (Close e) ∷ Ours (Accepted peer local) ∷ []) trace) ≡ Ours (Close e) ∷ Ours (Accepted peer local) ∷ own link trace =
+        own-told link (Ours (Close e) ∷ Ours (Accepted peer local) ∷ []) trace (refl, (refl, tt)) in
+        let gone = closed_gone root link peer local seen.disk table trace none fresh serves e unclean in
         let change : Changes link table next None = subst (λ t. Changes link table t None) (sym same) (leaves link table none) in
-        let here : StandsFor seen.disk.table (world_of root seen.disk link) (kept_at link next) (Ours (Close ending.NoMemory) ∷ Ours (Accepted peer local) ∷ own link trace) =
-        subst (λ k. StandsFor seen.disk.table (world_of root seen.disk link) k (Ours (Close ending.NoMemory) ∷ Ours (Accepted peer local) ∷ own link trace)) (sym change.here)
-        (subst (λ (d : List Deed). IsGone (world_of root seen.disk link) (Ours (Close ending.NoMemory) ∷ Ours (Accepted peer local) ∷ d)) (sym (own_unnamed link trace fresh)) gone) in
+        let here : StandsFor seen.disk.table (world_of root seen.disk link) (kept_at link next) (Ours (Close e) ∷ Ours (Accepted peer local) ∷ own link trace) =
+        subst (λ k. StandsFor seen.disk.table (world_of root seen.disk link) k (Ours (Close e) ∷ Ours (Accepted peer local) ∷ own link trace)) (sym change.here)
+        (subst (λ (d : List Deed). IsGone (world_of root seen.disk link) (Ours (Close e) ∷ Ours (Accepted peer local) ∷ d)) (sym (own_unnamed link trace fresh)) gone) in
+        let count : open_clients (told link (Ours (Close e) ∷ Ours (Accepted peer local) ∷ []) trace) ≡ length next = omega (arith, serves.count, ap length same) in
         let P : List Entry → Type 0 = Serves seen.disk (record { root = root; table = next }) in
-        let is : now ≡ told link (Ours (Close ending.NoMemory) ∷ Ours (Accepted peer local) ∷ []) trace = gains n ∙ ap (told link (Ours (Close ending.NoMemory) ∷ [])) gained in (
+        let is : now ≡ told link (Ours (Close e) ∷ Ours (Accepted peer local) ∷ []) trace = gains n ∙ ap (told link (Ours (Close e) ∷ [])) gained in (
           subst P (sym is)
               (frame link seen.disk seen.disk table next (backs f) (no_files link seen.disk table next None none change.here refl) (subst (FitsFor seen.disk.table) (sym change.here) tt) change.others
-              root trace (Ours (Close ending.NoMemory) ∷ Ours (Accepted peer local) ∷ []) (refl, (refl, tt)) serves here),
+              root trace (Ours (Close e) ∷ Ours (Accepted peer local) ∷ []) (refl, (refl, tt)) count serves here),
           record {
             link = link;
             event = Accepted peer local;
-            parts = record { client = link; deeds = Ours (Close ending.NoMemory) ∷ [] } ∷ [];
+            parts = record { client = link; deeds = Ours (Close e) ∷ [] } ∷ [];
             gains = is;
-            due = (refl, (refl, tt), subst (DueArrival peer local (own link trace)) (sym (ap (own link) is ∙ two)) DueArrival.refused);
+            due = (
+              refl,
+              (refl, tt),
+              subst (DueArrival (open_clients trace) peer local (own link trace)) (sym (ap (own link) is ∙ two))
+                  (subst (λ (k : ℕ). DueArrival k peer local (own link trace) (Ours (Close e) ∷ Ours (Accepted peer local) ∷ own link trace)) (sym serves.count) (due (own link trace))),
+            );
             grows = grows_none seen;
           },
         )
+
+  -- for want of memory
+  pub turn_refused : length table < connection_limit → next ≡ table → (net → now ≡ told link (Ours (Close ending.NoMemory) ∷ []) old) → (files → Backs seen.disk.table table)
+      → TurnsOn (Accepted peer local) link (record { root = root; table = table }) (record { root = root; table = next }) net files seen seen old now
+  turn_refused room same gains = turn_closed ending.NoMemory (λ e. cc (e)) (λ past. DueArrival.refused room) same gains
+
+  -- as one too many
+  pub turn_full : connection_limit ≤ length table → next ≡ table → (net → now ≡ told link (Ours (Close ending.Full) ∷ []) old) → (files → Backs seen.disk.table table)
+      → TurnsOn (Accepted peer local) link (record { root = root; table = table }) (record { root = root; table = next }) net files seen seen old now
+  turn_full limit same gains = turn_closed ending.Full (λ e. cc (e)) (λ past. DueArrival.full limit) same gains

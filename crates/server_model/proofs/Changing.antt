@@ -1,15 +1,22 @@
 -- A change of the table at one link.
-use Rattle.std.proofs.Common.{◌≡◌, ◌≢◌, ℕ, zero, suc, ◌+◌, ◌≤◌, ◌<◌, List, [], ◌∷◌, ◌++◌, length, take, drop, get_or, set, Option, Some, None, inl, inr, refl, sym, ◌∙◌, ap, subst, arith, add-one, take-append-drop}
+use Rattle.std.proofs.Common.{◌≡◌, ◌≢◌, ℕ, zero, suc, ◌+◌, ◌≤◌, ◌<◌, List, [], ◌∷◌, ◌++◌, length, take, drop, get_or, set, Option, Some, None, inl, inr, refl, sym, ◌∙◌, ap, subst, arith, add-one, take-append-drop, length-append}
 use Rattle.std.proofs.lemmas.Bool.{cases_eq, cases_lt}
 use Rattle.std.proofs.lemmas.List.{drop_more, set_split, take-set, drop-set-lt}
 use Rattle.server_model.specs.Held.{Held, kept_at, IsEachOnce, IsPlace}
 use Rattle.server_model.specs.Files.{IsTable}
+use Rattle.server_model.specs.Turns.{open_with}
 use Rattle.server_model.proofs.Tables.{kept_at-append, kept_at-first, kept_at-past, kept_at-replace_other, once-replace, kept_at-remove_other, kept_at-remove_same, once-remove, once-push, kept_at-push_other}
+
+-- how many are kept
+abbrev pub kept_count : Option Held → ℕ
+kept_count None = 0
+kept_count (Some held) = 1
 
 pub record Changes (link : ℕ) (table next : List Held) (now : Option Held) : Type 0 where
   pub here : kept_at link next ≡ now
   pub others : (other : ℕ) → other ≢ link → kept_at other next ≡ kept_at other table
   pub once : IsEachOnce table → IsEachOnce next
+  pub count : length next + kept_count (kept_at link table) ≡ length table + kept_count now
 
 -- the link is kept between these
 pub record IsAt (link : ℕ) (table : List Held) (xs : List Held) (held : Held) (ys : List Held) : Type 0 where
@@ -25,6 +32,7 @@ replaces link table xs held ys at new next is same = record {
   here = ap (λ t. kept_at link t) is ∙ kept_at-append link xs (new ∷ ys) at.first ∙ kept_at-first link new ys (same ∙ at.link_is);
   others = λ c apart. ap (λ t. kept_at c t) is ∙ kept_at-replace_other held new ys same c xs (λ e. apart (e ∙ at.link_is)) ∙ ap (λ t. kept_at c t) (sym at.split);
   once = λ o. subst IsEachOnce (sym is) (once-replace held new ys same xs (subst IsEachOnce at.split o));
+  count = omega (arith, ap kept_count (at_is link table xs held ys at), ap length is, ap length at.split, length-append xs (new ∷ ys), length-append xs (held ∷ ys));
 }
 
 pub removes : (link : ℕ) (table xs : List Held) (held : Held) (ys : List Held) → IsAt link table xs held ys → (next : List Held) → next ≡ xs ++ ys → IsEachOnce table → Changes link table next None
@@ -32,6 +40,7 @@ removes link table xs held ys at next is each = record {
   here = ap (λ t. kept_at link t) is ∙ ap (λ l. kept_at l (xs ++ ys)) (sym at.link_is) ∙ kept_at-remove_same held ys xs (subst IsEachOnce at.split each) (ap (λ l. kept_at l xs) at.link_is ∙ at.first);
   others = λ c apart. ap (λ t. kept_at c t) is ∙ kept_at-remove_other held ys c xs (λ e. apart (e ∙ at.link_is)) ∙ ap (λ t. kept_at c t) (sym at.split);
   once = λ o. subst IsEachOnce (sym is) (once-remove held ys xs (subst IsEachOnce at.split o));
+  count = omega (arith, ap kept_count (at_is link table xs held ys at), ap length is, ap length at.split, length-append xs ys, length-append xs (held ∷ ys));
 }
 
 pub adds : (link : ℕ) (table : List Held) → kept_at link table ≡ None → (new : Held) (next : List Held) → next ≡ table ++ new ∷ [] → new.link ≡ link → Changes link table next (Some new)
@@ -39,10 +48,16 @@ adds link table none new next is same = record {
   here = ap (λ t. kept_at link t) is ∙ kept_at-append link table (new ∷ []) none ∙ kept_at-first link new [] same;
   others = λ c apart. ap (λ t. kept_at c t) is ∙ kept_at-push_other c new (λ e. apart (sym e ∙ same)) table;
   once = λ o. subst IsEachOnce (sym is) (once-push table new o (ap (λ l. kept_at l table) same ∙ none));
+  count = omega (arith, ap kept_count none, ap length is, length-append table (new ∷ []));
 }
 
 pub leaves : (link : ℕ) (table : List Held) → kept_at link table ≡ None → Changes link table table None
-leaves link table none = record { here = none; others = λ c apart. refl; once = λ o. o }
+leaves link table none = record { here = none; others = λ c apart. refl; once = λ o. o; count = ap (λ (n : ℕ). length table + n) (ap kept_count none) }
+
+-- how many clients are kept by then, where the link was
+pub count_now : (link : ℕ) (table next : List Held) (held : Held) (now : Option Held) → kept_at link table ≡ Some held → Changes link table next now → length next ≡ open_with now (length table)
+count_now link table next held None kept change = omega (arith, change.count, ap kept_count kept)
+count_now link table next held (Some new) kept change = omega (arith, change.count, ap kept_count kept)
 
 -- a table of a net that gave more links by now
 pub table_on : (links more link : ℕ) (table next : List Held) (now : Option Held) → IsTable links table → Changes link table next now → links ≤ more → link < more → IsTable more next

@@ -1,40 +1,27 @@
 -- The frame: a step for one client leaves every other as it stood.
-use Rattle.std.proofs.Common.{◌≡◌, ◌≢◌, ℕ, List, ◌++◌, Option, Some, None, inl, inr, sym, ◌∙◌, ap, subst}
+use Rattle.std.proofs.Common.{◌≡◌, ◌≢◌, ℕ, List, ◌++◌, Option, Some, None, inl, inr, length, refl, sym, ◌∙◌, ap, subst}
 use Rattle.std.proofs.lemmas.Bool.{cases_eq}
 use Rattle.lt_world.specs.Disk.{Disk, Table}
 use Rattle.lt_world.specs.Trace.{Act, Entry}
 use Rattle.server_model.specs.Plan.{World, world_of}
+use Rattle.server_model.specs.Open.{open_clients}
 use Rattle.server_model.specs.Deeds.{Deed, own, ours, told, AreDeeds}
 use Rattle.chunkqueue.specs.Items.{bytes_of}
-use Rattle.server_model.specs.Held.{Stage, Awaiting, Answering, Held, kept_at}
+use Rattle.server_model.specs.Held.{Held, kept_at}
 use Rattle.server_model.specs.Files.{file_of, IsOpened, FitsFor, Backs, FileStep}
-use Rattle.server_model.specs.Serves.{IsAt, Matches, Stands, StandsFor, Serves}
+use Rattle.server_model.specs.Serves.{Matches, Stands, StandsFor, Serves}
 use Rattle.server_model.proofs.Owned.{own-told, own-told_other}
-use Rattle.server_model.proofs.Moves.{shows_over}
+use Rattle.server_model.proofs.Moves.{at_as}
 use Rattle.server_model.proofs.FileSteps.{option_cases, items_alone, fits_alone}
 
 -- other opened files that give the same bytes
-at_over : (before after : Table) (world : World) (held : Held) (acts : List Act) (s : Stage) → bytes_of after held.owed ≡ bytes_of before held.owed → IsAt before world held acts s → IsAt after world held acts s
-at_over before after world held acts (Awaiting k) same at = at
-at_over before after world held acts (Answering k last) same at = record {
-  before = at.before;
-  taken = at.taken;
-  passed = at.passed;
-  output = at.output;
-  owed = ap (λ l. at.taken ++ l) same ∙ at.owed;
-  shows = shows_over before after held.owed held.staged same at.shows;
-  whole = at.whole;
-  last_is = at.last_is;
-  input = at.input;
-}
-
 pub matches_over : (before after : Table) (world : World) (held : Held) (acts : List Act) → bytes_of after held.owed ≡ bytes_of before held.owed → Matches before world held acts → Matches after world held acts
 matches_over before after world held acts same m = record {
   is_open = m.is_open;
   sound = m.sound;
   came = m.came;
   ended = m.ended;
-  at = at_over before after world held acts held.stage same m.at;
+  at = at_as before after world held held acts acts refl refl refl refl refl (λ e. e) same held.stage m.at;
   in_turn = m.in_turn;
   unasked = m.unasked;
 }
@@ -108,9 +95,9 @@ module _ (client : ℕ) (before after : Disk) (table next : List Held) (backs : 
   ]
 
   -- and the server serves again, where the client stands
-  pub frame : (root : List ℕ) (trace : List Entry) (deeds : List Deed) → AreDeeds deeds → Serves before (record { root = root; table = table }) trace
+  pub frame : (root : List ℕ) (trace : List Entry) (deeds : List Deed) → AreDeeds deeds → open_clients (told client deeds trace) ≡ length next → Serves before (record { root = root; table = table }) trace
       → StandsFor after.table (world_of root after client) (kept_at client next) (deeds ++ own client trace) → Serves after (record { root = root; table = next }) (told client deeds trace)
-  frame root trace deeds are serves here = record {
+  frame root trace deeds are count serves here = record {
     each = λ o. elim (cases_eq o client) [
       | inl is ↦ subst (λ (n : ℕ). StandsFor after.table (world_of root after n) (kept_at n next) (own n (told client deeds trace))) (sym is)
           (subst (StandsFor after.table (world_of root after client) (kept_at client next)) (sym (own-told client deeds trace are)) here)
@@ -119,5 +106,6 @@ module _ (client : ℕ) (before after : Disk) (table next : List Held) (backs : 
           (subst (StandsFor after.table (world_of root before o) (kept_at o table)) (sym (own-told_other o client deeds trace apart))
           (stands_alone before.table after.table (world_of root before o) (kept_at o table) (own o trace) (left_alone o apart) (backs.each o) (serves.each o))))
     ];
+    count = count;
     opened = opened_on serves.opened;
   }

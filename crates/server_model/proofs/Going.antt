@@ -1,11 +1,12 @@
 -- Steps that leave the client open, or say how it is to be closed.
-use Rattle.std.proofs.Common.{◌≡◌, ℕ, List, [], ◌∷◌, ◌++◌, Bool, false, Option, Some, None, refl, sym, ◌∙◌, subst}
+use Rattle.std.proofs.Common.{◌≡◌, ℕ, ◌-◌, ap, List, [], ◌∷◌, ◌++◌, Bool, false, Option, Some, None, refl, sym, ◌∙◌, subst}
 use Rattle.lt_world.specs.declared.net.Ending.{Ending}
 use Rattle.lt_world.specs.declared.net.Ending.TheVariants as ending
 use Rattle.lt_world.specs.Disk.{Disk, Table}
 use Rattle.lt_world.specs.Trace.{Act, Entry, Close}
 use Rattle.server_model.specs.Plan.{World, world_of}
 use Rattle.server_model.specs.Deeds.{Deed, Ours, ours, told, AreDeeds}
+use Rattle.server_model.specs.Open.{open_clients}
 use Rattle.server_model.specs.Client.{has_failed, IsFinished, IsRight}
 use Rattle.server_model.specs.Held.{Held}
 use Rattle.server_model.specs.Files.{FileStep, Drops}
@@ -25,6 +26,7 @@ module _ (From : Table → World → Held → List Act → Type 0) (due : World 
     deeds = Ours (Close e) ∷ s.deeds;
     are = (refl, s.are);
     gains = λ n. gains n ∙ (λ i. record { link = s.link i; act = Close e } ∷ s.gains n i);
+    count = λ trace. ap (λ (n : ℕ). n - 1) (s.count trace);
     does = λ f. and_then held.link held.file new.file None before between after (s.does f) (subst (λ (l : ℕ). FileStep l new.file None between after) s.link (drops new.link between after new.file (dropped f)));
     fits = λ f. tt;
     keeps = λ f past from.
@@ -38,7 +40,7 @@ module _ (From : Table → World → Held → List Act → Type 0) (due : World 
 
 -- known deeds and a change of what is kept, before what settles
 module _ (From : Table → World → Held → List Act → Type 0) (due : World → World → List Deed → List Deed → Type 0) (may : Bool) (root : List ℕ) (held mid new : Held) (net files : Type 0) (before after : Disk) (old now : List Entry)
-    (deeds : List Deed) (are : AreDeeds deeds) (gains : net → now ≡ told held.link deeds old) (link : mid.link ≡ held.link) (file : mid.file ≡ held.file)
+    (deeds : List Deed) (are : AreDeeds deeds) (gains : net → now ≡ told held.link deeds old) (count : (trace : List Entry) → open_clients (told held.link deeds trace) ≡ open_clients trace) (link : mid.link ≡ held.link) (file : mid.file ≡ held.file)
     (from : files → (past : List Deed) → From before.table (world_of root before held.link) held (ours past) → Matches before.table (world_of root before held.link) mid (ours (deeds ++ past)))
     (dues : files → (past all : List Deed) → From before.table (world_of root before held.link) held (ours past) → Settles (world_of root after held.link) may (deeds ++ past) all → due (world_of root before held.link) (world_of root after held.link) past all) where
   files_from : FileStep mid.link mid.file new.file before after → FileStep held.link held.file new.file before after
@@ -49,6 +51,7 @@ module _ (From : Table → World → Held → List Act → Type 0) (due : World 
     deeds = deeds;
     are = are;
     gains = gains;
+    count = count;
     does = λ f. files_from (s.does f);
     fits = s.fits;
     keeps = λ f past start.
@@ -71,6 +74,7 @@ module _ (From : Table → World → Held → List Act → Type 0) (due : World 
     deeds = deeds;
     are = are;
     gains = gains;
+    count = count;
     link = s.link ∙ link;
     does = λ f. files_from (s.does f);
     keeps = λ f past start.

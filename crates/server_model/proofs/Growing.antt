@@ -1,39 +1,122 @@
 -- What a client was to get begins what it is to get later.
-use Rattle.std.proofs.Common.{◌≡◌, ◌≢◌, ℕ, List, [], ◌∷◌, ◌++◌, Bool, ◌&&◌, refl, sym, ◌∙◌, ap, subst}
+use Rattle.std.proofs.Common.{◌≡◌, ◌≢◌, ℕ, ◌+◌, ◌<◌, ◌≤◌, List, [], ◌∷◌, ◌++◌, length, Bool, true, false, ◌&&◌, if◌then◌else◌, refl, sym, ◌∙◌, ap, subst, arith, append_assoc, length-append}
 use Rattle.std.proofs.lemmas.List.{append-nil}
 use Rattle.lt_world.specs.declared.files.FileCall.{FileCall}
 use Rattle.lt_world.specs.declared.files.FileCall.TheVariants as call
 use Rattle.lt_world.specs.Disk.{is_kind}
 use Rattle.lt_world.specs.Trace.{Act, Accepted, Readable, Writable, Read, ReadEnd, NotYet, Failed, Wrote, Connect, Close}
-use Rattle.server_model.specs.Request.{Request, Unfinished, Refused, Complete, request_of}
-use Rattle.server_model.specs.Plan.{World, owner_at, has_failed_call, with_call, outcome}
-use Rattle.server_model.specs.Reply.{Reply, reply_by, reply}
-use Rattle.server_model.specs.Stream.{IsPrefix, Passed, replies_to, stream_of}
+use Rattle.server_model.specs.Request.{Request, Unfinished, Refused, Open, Declined, Complete, request_of, rest_of, is_complete, requests_within}
+use Rattle.server_model.specs.Plan.{World, owner_at, has_failed_call, with_call, outcome, is_served}
+use Rattle.server_model.specs.Reply.{whole_reply, continue_of, final_bytes, is_last_request, reply, replies}
+use Rattle.server_model.specs.Stream.{IsPrefix, is_followed, joined, Passed, replies_to, stream_of}
 use Rattle.server_model.specs.Client.{input_of, stream}
-use Rattle.server_model.proofs.Requests.{complete_grows, refused_grows}
-use Rattle.server_model.proofs.Replying.{first_reply, first_alone, stream_is}
+use Rattle.server_model.proofs.Requests.{is_complete_front, open_keeps, complete_grows, refused_grows, declined_grows, rest_grows}
+use Rattle.server_model.proofs.Replying.{next_reply, followed_complete, headed_begins, following, lasts, passed_world, passed_stream}
 use Rattle.server_model.proofs.Calls.{and_false, other_owner, unlogged}
 
-same_prefix : (xs : List ℕ) → IsPrefix xs xs
+pub same_prefix : (xs : List ℕ) → IsPrefix xs xs
 same_prefix xs = ([], append-nil xs)
+
+prefix_is : (xs ys : List ℕ) → ys ≡ xs → IsPrefix xs ys
+prefix_is xs ys is = ([], append-nil xs ∙ sym is)
+
+-- the same bytes in front of both
+prefix_after : (front xs ys : List ℕ) → IsPrefix xs ys → IsPrefix (front ++ xs) (front ++ ys)
+prefix_after front xs ys p = (p.0, append_assoc front xs p.0 ∙ ap (λ l. front ++ l) p.1)
+
+prefix_then : (xs ys zs : List ℕ) → IsPrefix xs ys → IsPrefix ys zs → IsPrefix xs zs
+prefix_then xs ys zs p q = (p.0 ++ q.0, sym (append_assoc xs p.0 q.0) ∙ ap (λ l. l ++ q.0) p.1 ∙ q.1)
+
+abbrev said : World → ℕ → Request → List ℕ
+said world k r = (reply world k r).bytes
+
+module _ (bytes more : List ℕ) where
+  complete_same : is_complete (request_of bytes) ≡ true → request_of (bytes ++ more) ≡ request_of bytes
+  complete_same is =
+      let c = is_complete_front bytes is in
+      complete_grows bytes more c.0 c.1.0 c.1.1 ∙ sym c.1.1
+
+  -- what is said to a request goes on as it goes on
+  pub reply_grows : (world : World) (k : ℕ) → IsPrefix (reply world k (request_of bytes)).bytes (reply world k (request_of (bytes ++ more))).bytes
+  reply_grows world k = by (request_of bytes) refl
+    where
+      same : request_of (bytes ++ more) ≡ request_of bytes → IsPrefix (said world k (request_of bytes)) (said world k (request_of (bytes ++ more)))
+      same is = prefix_is (said world k (request_of bytes)) (said world k (request_of (bytes ++ more))) (ap (said world k) is)
+
+      by : (r : Request) → request_of bytes ≡ r → IsPrefix (said world k (request_of bytes)) (said world k (request_of (bytes ++ more)))
+      by Unfinished is = (said world k (request_of (bytes ++ more)), ap (λ r. said world k r ++ said world k (request_of (bytes ++ more))) is)
+      by (Refused status) is = same (refused_grows bytes more status is ∙ sym is)
+      by (Open head) is =
+          let o = open_keeps bytes more head is in
+          let h = headed_begins world k head (o.0 ++ more) in
+          (h.0, ap (λ r. said world k r ++ h.0) is ∙ sym (ap (said world k) o.2 ∙ h.1))
+      by (Declined status head) is = same (declined_grows bytes more status head is ∙ sym is)
+      by (Complete head content) is = same (complete_grows bytes more head content is ∙ sym is)
+
+module _ (world : World) where
+  abbrev all_of : ℕ → List ℕ → List ℕ → List ℕ
+  all_of j fuel bytes = joined (replies world j (requests_within fuel bytes))
+
+  -- a reply that isn't followed ends what is joined
+  alone : (j : ℕ) (fuel bytes : List ℕ) → is_followed (reply world j (request_of bytes)) ≡ false → all_of j fuel bytes ≡ (reply world j (request_of bytes)).bytes
+  alone j [] bytes is = ap (λ t. if t then (reply world j (request_of bytes)).bytes ++ [] else (reply world j (request_of bytes)).bytes) is
+  alone j (b ∷ fuel) bytes is = ap (λ t. if t then (reply world j (request_of bytes)).bytes ++ joined (replies world (j + 1) (if is_complete (request_of bytes) then requests_within fuel (rest_of bytes) else [])) else (reply world j (request_of bytes)).bytes) is
+
+  -- and after one that is followed the next come
+  follows : (j b : ℕ) (fuel bytes : List ℕ) → is_followed (reply world j (request_of bytes)) ≡ true → all_of j (b ∷ fuel) bytes ≡ (reply world j (request_of bytes)).bytes ++ all_of (j + 1) fuel (rest_of bytes)
+  follows j b fuel bytes is =
+      ap (λ t. if t then (reply world j (request_of bytes)).bytes ++ joined (replies world (j + 1) (if is_complete (request_of bytes) then requests_within fuel (rest_of bytes) else [])) else (reply world j (request_of bytes)).bytes) is
+      ∙ ap (λ rs. (reply world j (request_of bytes)).bytes ++ joined rs) (following world j fuel bytes is)
+
+  -- all begins with the first reply
+  begins : (j : ℕ) (fuel bytes : List ℕ) → IsPrefix (reply world j (request_of bytes)).bytes (all_of j fuel bytes)
+  begins j [] bytes = by (is_followed (reply world j (request_of bytes)))
+    where
+      by : (t : Bool) → IsPrefix (reply world j (request_of bytes)).bytes (if t then (reply world j (request_of bytes)).bytes ++ [] else (reply world j (request_of bytes)).bytes)
+      by true = ([], refl)
+      by false = same_prefix (reply world j (request_of bytes)).bytes
+  begins j (b ∷ fuel) bytes = by (joined (replies world (j + 1) (if is_complete (request_of bytes) then requests_within fuel (rest_of bytes) else []))) (is_followed (reply world j (request_of bytes)))
+    where
+      by : (later : List ℕ) (t : Bool) → IsPrefix (reply world j (request_of bytes)).bytes (if t then (reply world j (request_of bytes)).bytes ++ later else (reply world j (request_of bytes)).bytes)
+      by later true = (later, refl)
+      by later false = same_prefix (reply world j (request_of bytes)).bytes
+
+  ends : (j : ℕ) (fuel long bytes more : List ℕ) → is_followed (reply world j (request_of bytes)) ≡ false → IsPrefix (all_of j fuel bytes) (all_of j long (bytes ++ more))
+  ends j fuel long bytes more is =
+      subst (λ l. IsPrefix l (all_of j long (bytes ++ more))) (sym (alone j fuel bytes is))
+      (prefix_then (reply world j (request_of bytes)).bytes (reply world j (request_of (bytes ++ more))).bytes (all_of j long (bytes ++ more)) (reply_grows bytes more world j) (begins j long (bytes ++ more)))
+
+  grown : (j : ℕ) (fuel long bytes more : List ℕ) → length bytes ≤ length fuel → length (bytes ++ more) ≤ length long → IsPrefix (all_of j fuel bytes) (all_of j long (bytes ++ more))
+  grown j [] long bytes more enough more_enough = by (is_followed (reply world j (request_of bytes))) refl
+    where
+      by : (t : Bool) → is_followed (reply world j (request_of bytes)) ≡ t → IsPrefix (all_of j [] bytes) (all_of j long (bytes ++ more))
+      by true is = absurd (omega (arith, enough, lasts world j bytes is))
+      by false is = ends j [] long bytes more is
+  grown j (b ∷ fuel) [] bytes more enough more_enough = by (is_followed (reply world j (request_of bytes))) refl
+    where
+      by : (t : Bool) → is_followed (reply world j (request_of bytes)) ≡ t → IsPrefix (all_of j (b ∷ fuel) bytes) (all_of j [] (bytes ++ more))
+      by true is = absurd (omega (arith, more_enough, length-append bytes more, lasts world j bytes is))
+      by false is = ends j (b ∷ fuel) [] bytes more is
+  grown j (b ∷ fuel) (c ∷ long) bytes more enough more_enough = by (λ one two. grown (j + 1) fuel long (rest_of bytes) more one two) (is_followed (reply world j (request_of bytes))) refl
+    where
+      by : (length (rest_of bytes) ≤ length fuel → length (rest_of bytes ++ more) ≤ length long → IsPrefix (all_of (j + 1) fuel (rest_of bytes)) (all_of (j + 1) long (rest_of bytes ++ more)))
+          → (t : Bool) → is_followed (reply world j (request_of bytes)) ≡ t → IsPrefix (all_of j (b ∷ fuel) bytes) (all_of j (c ∷ long) (bytes ++ more))
+      by next false is = ends j (b ∷ fuel) (c ∷ long) bytes more is
+      by next true is =
+          let complete : is_complete (request_of bytes) ≡ true = followed_complete world j (request_of bytes) is in
+          let short : length (rest_of bytes) < length bytes = lasts world j bytes is in
+          let rest : IsPrefix (all_of (j + 1) fuel (rest_of bytes)) (all_of (j + 1) long (rest_of bytes ++ more)) =
+          next (omega (arith, enough, short)) (omega (arith, more_enough, short, length-append bytes more, length-append (rest_of bytes) more)) in
+          let same : request_of (bytes ++ more) ≡ request_of bytes = complete_same bytes more complete in
+          let still : is_followed (reply world j (request_of (bytes ++ more))) ≡ true = ap (λ (r : Request). is_followed (reply world j r)) same ∙ is in
+          let after : all_of j (c ∷ long) (bytes ++ more) ≡ (reply world j (request_of bytes)).bytes ++ all_of (j + 1) long (rest_of bytes ++ more) =
+          follows j c long (bytes ++ more) still ∙ (λ i. (reply world j (same i)).bytes ++ all_of (j + 1) long (rest_grows bytes more complete i)) in
+          let p = prefix_after (reply world j (request_of bytes)).bytes (all_of (j + 1) fuel (rest_of bytes)) (all_of (j + 1) long (rest_of bytes ++ more)) rest in
+          (p.0, ap (λ l. l ++ p.0) (follows j b fuel bytes is) ∙ p.1 ∙ sym after)
 
 -- further bytes
 pub stream_more : (world : World) (input bytes : List ℕ) → IsPrefix (stream_of world input) (stream_of world (input ++ bytes))
-stream_more world input bytes = by (request_of input) refl
-  where
-    begins : (now : Reply) → first_reply world input ≡ now → IsPrefix now.bytes (stream_of world (input ++ bytes)) → IsPrefix (stream_of world input) (stream_of world (input ++ bytes))
-    begins now is p = subst (λ l. IsPrefix l (stream_of world (input ++ bytes))) (sym (stream_is world input ∙ ap (λ (r : Reply). r.bytes) is)) p
-
-    whole : (r s : Request) → request_of input ≡ r → request_of (input ++ bytes) ≡ s → reply world 0 s ≡ reply world 0 r → IsPrefix (stream_of world input) (stream_of world (input ++ bytes))
-    whole r s is later same =
-        let e : stream_of world (input ++ bytes) ≡ stream_of world input =
-        stream_is world (input ++ bytes) ∙ ap (λ (q : Reply). q.bytes) (ap (reply world 0) later ∙ same ∙ ap (reply world 0) (sym is)) ∙ sym (stream_is world input) in
-        subst (IsPrefix (stream_of world input)) (sym e) (same_prefix (stream_of world input))
-
-    by : (r : Request) → request_of input ≡ r → IsPrefix (stream_of world input) (stream_of world (input ++ bytes))
-    by Unfinished is = begins (reply world 0 Unfinished) (ap (reply world 0) is) (stream_of world (input ++ bytes), refl)
-    by (Refused status) is = whole (Refused status) (Refused status) is (refused_grows input bytes status is) refl
-    by (Complete path rest) is = whole (Complete path rest) (Complete path (rest ++ bytes)) is (complete_grows input bytes path rest is) refl
+stream_more world input bytes = grown world 0 input (input ++ bytes) input bytes (omega arith) (omega arith)
 
 -- a further act
 pub stream_act : (world : World) (act : Act) (acts : List Act) → IsPrefix (stream world acts) (stream world (act ∷ acts))
@@ -57,10 +140,15 @@ module _ (world : World) (made : FileCall) (k j : ℕ) (failed : Bool) (apart : 
   pub reply_other : (r : Request) → reply (with_call made k failed world) j r ≡ reply world j r
   reply_other Unfinished = refl
   reply_other (Refused status) = refl
-  reply_other (Complete path rest) = (λ i. reply_by (outcome (failed_other call.Find i) (failed_other call.Open i) (world.tree (world.root ++ path))))
+  reply_other (Open head) = refl
+  reply_other (Declined status head) = refl
+  reply_other (Complete head content) =
+      (λ i. whole_reply (continue_of head ++ final_bytes head (is_last_request j head) (outcome (failed_other call.Find i) (failed_other call.Open i) (is_served head.method) (world.tree (world.root ++ head.target.path)))) (is_last_request j head))
 
 -- a call that comes as its request is planned
 pub planned_stays : (world : World) (what : FileCall) (k : ℕ) (failed : Bool) (input output : List ℕ) → Passed k (replies_to world input) output → IsPrefix output (stream_of (with_call what k failed world) input)
 planned_stays world what k failed input output passed =
-    let none = first_alone world input k output passed in
-    (stream_of (with_call what k failed world) input, ap (λ l. l ++ stream_of (with_call what k failed world) input) none.1)
+    let later : World = with_call what k failed world in
+    let still = passed_world world input k output passed later (λ j r below. reply_other world what k j failed (λ e. absurd (omega (arith, e, below))) r) in
+    let s = passed_stream later input k output still in
+    (joined (next_reply later input k ∷ s.0), sym s.1)

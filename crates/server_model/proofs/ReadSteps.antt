@@ -1,24 +1,21 @@
 -- The steps of a client at a Readable event: each outcome of the one read.
-use Rattle.std.proofs.Common.{◌≡◌, ◌≤◌, Bool, not, length, subst, arith, ℕ, List, [], ◌∷◌, true, false, Option, Some, refl, ◌∙◌}
+use Rattle.std.proofs.Common.{◌≡◌, ℕ, List, [], ◌∷◌, true, false, Option, Some, refl, ◌∙◌}
 use Rattle.lt_world.specs.declared.net.Ending.{Ending}
 use Rattle.lt_world.specs.declared.net.Ending.TheVariants as ending
 use Rattle.lt_world.specs.Disk.{Disk}
 use Rattle.lt_world.specs.Trace.{Entry, Reading, Read, ReadEnd, NotYet, Failed}
 use Rattle.server_model.specs.Plan.{world_of}
 use Rattle.server_model.specs.Deeds.{Ours, ours, told}
-use Rattle.server_model.specs.Held.{Stage, Held}
-use Rattle.server_model.specs.Request.{Unfinished, head_limit, request_of}
-use Rattle.server_model.proofs.Requests.{unfinished_short}
-use Rattle.server_model.proofs.Clients.{awaiting}
-use Rattle.server_model.specs.Steps.{received, received_end, is_read_at, wants_read}
+use Rattle.server_model.specs.Held.{Held}
+use Rattle.server_model.specs.Steps.{received, received_end, wants_read}
 use Rattle.server_model.specs.Files.{Fits}
-use Rattle.server_model.specs.Serves.{IsWaiting, Stands}
+use Rattle.server_model.specs.Serves.{Stands}
 use Rattle.server_model.specs.Due.{DueSettles, DueRead, Settles}
 use Rattle.server_model.specs.Turns.{StepsBy, StopsBy, GoesBy}
 use Rattle.server_model.specs.Settling.{SettlesTo}
 use Rattle.server_model.proofs.FileSteps.{same_files}
 use Rattle.server_model.proofs.Settled.{fails_right}
-use Rattle.server_model.proofs.Standing.{and_true, matches_right, stands_wants, stands_not_yet, stands_rests, matches_received, matches_end}
+use Rattle.server_model.proofs.Standing.{wants_reads, matches_right, stands_wants, stands_not_yet, stands_rests, matches_received, matches_end}
 use Rattle.server_model.proofs.Stepping.{step_none, step_stops, then_step}
 use Rattle.server_model.proofs.Going.{then_settles}
 
@@ -27,27 +24,15 @@ module _ (root : List ℕ) (held : Held) (net files : Type 0) (before : Disk) wh
   pub read_idle : (old : List Entry) → wants_read held ≡ false → (files → Fits before.table held) → StepsBy Stands DueRead root held (Some held) net files before before old old
   read_idle old isnt fits = step_none Stands DueRead root held net files before old old fits (λ f past s. (s, DueRead.idle (stands_wants before.table (world_of root before held.link) held (ours past) s ∙ isnt)))
 
-  -- nor is there room for one: never for a client that stands and wants it
-  pub read_full : (old : List Entry) → (wants_read held ≡ true → head_limit ≤ length held.input) → (files → Fits before.table held) → StepsBy Stands DueRead root held (Some held) net files before before old old
-  read_full old full fits = by (wants_read held) refl
-    where
-      by : (t : Bool) → wants_read held ≡ t → StepsBy Stands DueRead root held (Some held) net files before before old old
-      by false isnt = read_idle old isnt fits
-      by true is = step_none Stands DueRead root held net files before old old fits
-          (λ f past s.
-          let k = awaiting held.stage (and_true (is_read_at held.stage) (not held.ended) is).0 in
-          let request : request_of held.input ≡ Unfinished = subst (λ (g : Stage). IsWaiting g held.input) k.1 s.waiting in
-          absurd (omega (arith, full is, unfinished_short held.input request)))
-
   module _ (old now : List Entry) (is : wants_read held ≡ true) where
     pub read_not_yet : (net → now ≡ told held.link (Ours (NotYet Reading) ∷ []) old) → (files → Fits before.table held) → StepsBy Stands DueRead root held (Some held) net files before before old now
-    read_not_yet gains fits = then_step Stands Stands DueRead (DueSettles false) root held held (Some held) net files before before before old now now (Ours (NotYet Reading) ∷ []) (refl, tt) gains (λ f. same_files held.link before held.file) refl
+    read_not_yet gains fits = then_step Stands Stands DueRead (DueSettles false) root held held (Some held) net files before before before old now now (Ours (NotYet Reading) ∷ []) (refl, tt) gains (λ trace. refl) (λ f. same_files held.link before held.file) refl
         (λ f past s. stands_not_yet before.table (world_of root before held.link) held (ours past) Reading s)
         (λ f past all s settles. DueRead.reads (NotYet Reading) (stands_wants before.table (world_of root before held.link) held (ours past) s ∙ is) tt settles)
         (step_none Stands (DueSettles false) root held net files before now now fits (λ f past s. (s, Settles.rests (stands_rests before.table (world_of root before held.link) held past s))))
 
     pub read_failed : (net → now ≡ told held.link (Ours (Failed Reading) ∷ []) old) → StopsBy Stands DueRead root held held ending.ClientFault net files before before old now
-    read_failed gains = step_stops Stands DueRead root held net files before old now ending.ClientFault held (Ours (Failed Reading) ∷ []) (refl, tt) gains refl refl
+    read_failed gains = step_stops Stands DueRead root held net files before old now ending.ClientFault held (Ours (Failed Reading) ∷ []) (refl, tt) gains (λ trace. refl) refl refl
         (λ f past s. (
           fails_right (world_of root before held.link) (ours past) Reading (matches_right before.table (world_of root before held.link) held (ours past) s.matches),
           (λ e. absurd (cc (e))),
@@ -56,9 +41,9 @@ module _ (root : List ℕ) (held : Held) (net files : Type 0) (before : Disk) wh
 
     -- memory is wanted for what came
     pub read_yields : (new : Held) (bytes : List ℕ) → (net → now ≡ told held.link (Ours (Read bytes) ∷ []) old) → new.link ≡ held.link → new.file ≡ held.file → StopsBy Stands DueRead root held new ending.NoMemory net files before before old now
-    read_yields new bytes gains link file = step_stops Stands DueRead root held net files before old now ending.NoMemory new (Ours (Read bytes) ∷ []) (refl, tt) gains link file
+    read_yields new bytes gains link file = step_stops Stands DueRead root held net files before old now ending.NoMemory new (Ours (Read bytes) ∷ []) (refl, tt) gains (λ trace. refl) link file
         (λ f past s. (
-          matches_right before.table (world_of root before held.link) (received held bytes) (Read bytes ∷ ours past) (matches_received before.table (world_of root before held.link) held (ours past) bytes (and_true (is_read_at held.stage) _ is).0 s.matches),
+          matches_right before.table (world_of root before held.link) (received held bytes) (Read bytes ∷ ours past) (matches_received before.table (world_of root before held.link) held (ours past) bytes (wants_reads held is) s),
           (λ e. absurd (cc (e))),
           DueRead.reads (Read bytes) (stands_wants before.table (world_of root before held.link) held (ours past) s ∙ is) tt (Settles.yields refl),
         ))
@@ -66,15 +51,15 @@ module _ (root : List ℕ) (held : Held) (net files : Type 0) (before : Disk) wh
     -- bytes came, and then what follows
     pub read_then : (after : Disk) (new : Held) (result : Option Ending) (bytes : List ℕ) → (net → now ≡ told held.link (Ours (Read bytes) ∷ []) old)
         → SettlesTo true root (received held bytes) new result files before after → GoesBy Stands DueRead root held new result net files before after old now
-    read_then after new result bytes gains settles = then_settles Stands DueRead true root held (received held bytes) new net files before after old now (Ours (Read bytes) ∷ []) (refl, tt) gains refl refl
-        (λ f past s. matches_received before.table (world_of root before held.link) held (ours past) bytes (and_true (is_read_at held.stage) _ is).0 s.matches)
+    read_then after new result bytes gains settles = then_settles Stands DueRead true root held (received held bytes) new net files before after old now (Ours (Read bytes) ∷ []) (refl, tt) gains (λ trace. refl) refl refl
+        (λ f past s. matches_received before.table (world_of root before held.link) held (ours past) bytes (wants_reads held is) s)
         (λ f past all s settles. DueRead.reads (Read bytes) (stands_wants before.table (world_of root before held.link) held (ours past) s ∙ is) tt settles)
         result settles
 
     -- the end came, and then what follows
     pub read_end_then : (after : Disk) (new : Held) (result : Option Ending) → (net → now ≡ told held.link (Ours ReadEnd ∷ []) old)
         → SettlesTo true root (received_end held) new result files before after → GoesBy Stands DueRead root held new result net files before after old now
-    read_end_then after new result gains settles = then_settles Stands DueRead true root held (received_end held) new net files before after old now (Ours ReadEnd ∷ []) (refl, tt) gains refl refl
-        (λ f past s. matches_end before.table (world_of root before held.link) held (ours past) (and_true (is_read_at held.stage) _ is).0 s.matches)
+    read_end_then after new result gains settles = then_settles Stands DueRead true root held (received_end held) new net files before after old now (Ours ReadEnd ∷ []) (refl, tt) gains (λ trace. refl) refl refl
+        (λ f past s. matches_end before.table (world_of root before held.link) held (ours past) (wants_reads held is) s)
         (λ f past all s settles. DueRead.reads ReadEnd (stands_wants before.table (world_of root before held.link) held (ours past) s ∙ is) tt settles)
         result settles

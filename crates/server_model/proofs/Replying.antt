@@ -1,54 +1,274 @@
--- Every reply is the last: so a client's stream is its first reply.
-use Rattle.std.proofs.Common.{◌≡◌, ℕ, zero, suc, ◌+◌, ◌-◌, List, [], ◌∷◌, ◌++◌, length, false, ◌&&◌, nat_le, if◌then◌else◌, refl, ◌∙◌, ap, subst}
-use Rattle.server_model.specs.Request.{Request, Unfinished, Refused, Complete, request_of}
-use Rattle.server_model.specs.Plan.{World, Outcome, Error, Content, plan}
-use Rattle.server_model.specs.Reply.{Reply, reply_by, reply, replies}
-use Rattle.server_model.specs.Stream.{is_followed, joined, final, place, Passed, reply_at, replies_to, stream_of}
-use Rattle.server_model.proofs.Requests.{first_request}
+-- Where k replies were passed: the reply that is next, and what is known of the stream, the place and the bytes from there on.
+use Rattle.std.proofs.Common.{◌≡◌, ℕ, zero, suc, ◌+◌, ◌-◌, ◌<◌, ◌≤◌, List, [], ◌∷◌, ◌++◌, length, drop, true, false, ◌&&◌, nat_le, if◌then◌else◌, refl, sym, ◌∙◌, ap, subst, arith, add-one, append_assoc, length-append}
+use Rattle.std.specs.Prelude.{Result, Ok, Err}
+use Rattle.std.proofs.lemmas.Bool.{false≢true}
+use Rattle.std.proofs.lemmas.Bool.Decides.{nat_tests}
+use Rattle.std.proofs.lemmas.List.{append-nil}
+use Rattle.lt_http_body.specs.declared.body.BodyState.{BodyState}
+use Rattle.lt_http_body.specs.declared.body.BodyState.TheVariants as body
+use Rattle.lt_http_body.specs.declared.body.BodyRefusal.{BodyRefusal}
+use Rattle.lt_http_body.specs.Standings.{answer_from}
+use Rattle.lt_http_body.specs.Reading.{standing_after, data_in}
+use Rattle.server_model.specs.Request.{Head, Request, Unfinished, Refused, Open, Declined, Complete, bodied, begin_of, headed, request_of, rest_of, is_complete, requests_within}
+use Rattle.server_model.specs.Plan.{World, plan, is_head}
+use Rattle.server_model.specs.Reply.{Growing, Reply, error_bytes, continue_of, final_bytes, is_last_request, reply, replies}
+use Rattle.server_model.specs.Stream.{is_followed, joined, final, place, Passed, reply_at, left_after, replies_to, stream_of}
+use Rattle.server_model.specs.Serves.{told_first}
+use Rattle.server_model.proofs.Requests.{complete_grows, rest_grows, rest_shorter}
 
-unfollowed_by : (o : Outcome) → is_followed (reply_by o) ≡ false
-unfollowed_by (Error status) = refl
-unfollowed_by (Content bytes) = refl
+abbrev pub next_request : List ℕ → ℕ → Request
+next_request input k = request_of (left_after k input)
 
--- no reply is followed by another
-pub unfollowed : (world : World) (k : ℕ) (r : Request) → is_followed (reply world k r) ≡ false
-unfollowed world k Unfinished = refl
-unfollowed world k (Refused status) = refl
-unfollowed world k (Complete path rest) = unfollowed_by (plan world k path)
+abbrev pub next_reply : World → List ℕ → ℕ → Reply
+next_reply world input k = reply world k (next_request input k)
 
--- the reply to the first request
-abbrev pub first_reply : World → List ℕ → Reply
-first_reply world input = reply world 0 (request_of input)
+left_suc : (k : ℕ) (bytes : List ℕ) → left_after (suc k) bytes ≡ rest_of (left_after k bytes)
+left_suc zero bytes = refl
+left_suc (suc k) bytes = left_suc k (rest_of bytes)
 
-pub first_of : (world : World) (input : List ℕ) → (more : List Reply) × (replies_to world input ≡ first_reply world input ∷ more)
-first_of world input = let first = first_request input input in (replies world (0 + 1) first.0, ap (replies world 0) first.1)
+pub left_next : (k : ℕ) (bytes : List ℕ) → left_after (k + 1) bytes ≡ rest_of (left_after k bytes)
+left_next k bytes = ap (λ (n : ℕ). left_after n bytes) (add-one k) ∙ left_suc k bytes
 
-module _ (world : World) (input : List ℕ) where
-  alone : is_followed (first_reply world input) ≡ false
-  alone = unfollowed world 0 (request_of input)
+-- only a complete request has a reply that is followed
+pub followed_complete : (world : World) (k : ℕ) (r : Request) → is_followed (reply world k r) ≡ true → is_complete r ≡ true
+followed_complete world k Unfinished is = is
+followed_complete world k (Refused status) is = is
+followed_complete world k (Open head) is = is
+followed_complete world k (Declined status head) is = is
+followed_complete world k (Complete head content) is = refl
 
-  abbrev rest : List Reply
-  rest = (first_of world input).0
+-- a request whose reply grows isn't complete
+pub growing_incomplete : (world : World) (k : ℕ) (r : Request) → (reply world k r).extent ≡ Growing → is_complete r ≡ false
+growing_incomplete world k Unfinished is = refl
+growing_incomplete world k (Refused status) is = refl
+growing_incomplete world k (Open head) is = refl
+growing_incomplete world k (Declined status head) is = refl
+growing_incomplete world k (Complete head content) is = cc (is)
 
-  are : replies_to world input ≡ first_reply world input ∷ rest
-  are = (first_of world input).1
+-- and nothing follows that reply
+pub growing_alone : (world : World) (k : ℕ) (r : Request) → (reply world k r).extent ≡ Growing → is_followed (reply world k r) ≡ false
+growing_alone world k Unfinished is = refl
+growing_alone world k (Refused status) is = refl
+growing_alone world k (Open head) is = refl
+growing_alone world k (Declined status head) is = refl
+growing_alone world k (Complete head content) is = cc (is)
 
-  pub stream_is : stream_of world input ≡ (first_reply world input).bytes
-  stream_is = ap joined are ∙ ap (λ t. if t then (first_reply world input).bytes ++ joined rest else (first_reply world input).bytes) alone
+-- it isn't the last
+pub growing_goes_on : (world : World) (k : ℕ) (r : Request) → (reply world k r).extent ≡ Growing → (reply world k r).last ≡ false
+growing_goes_on world k Unfinished is = refl
+growing_goes_on world k (Refused status) is = cc (is)
+growing_goes_on world k (Open head) is = refl
+growing_goes_on world k (Declined status head) is = cc (is)
+growing_goes_on world k (Complete head content) is = cc (is)
 
-  pub final_is : final (replies_to world input) ≡ first_reply world input
-  final_is = ap final are ∙ ap (λ t. if t then final rest else first_reply world input) alone
+-- a reply whose request isn't complete is followed by none
+pub incomplete_alone : (world : World) (k : ℕ) (r : Request) → is_complete r ≡ false → is_followed (reply world k r) ≡ false
+incomplete_alone world k Unfinished is = refl
+incomplete_alone world k (Refused status) is = refl
+incomplete_alone world k (Open head) is = refl
+incomplete_alone world k (Declined status head) is = refl
+incomplete_alone world k (Complete head content) is = absurd (false≢true (sym is))
 
-  pub place_is : (n : ℕ) → place 0 n (replies_to world input) ≡ record { number = 0; reply = first_reply world input; taken = n }
-  place_is n = ap (place 0 n) are ∙ ap (λ t. if t && nat_le (length (first_reply world input).bytes) n then place (0 + 1) (n - length (first_reply world input).bytes) rest else record { number = 0; reply = first_reply world input; taken = n }) alone
+-- ---- what is told first
 
-  pub reply_is : reply_at 0 (replies_to world input) ≡ first_reply world input
-  reply_is = ap (reply_at 0) are
+-- each reply begins with it
+pub told_begins : (world : World) (k : ℕ) (r : Request) → (rest : List ℕ) × ((reply world k r).bytes ≡ told_first r ++ rest)
+told_begins world k Unfinished = ([], refl)
+told_begins world k (Refused status) = (error_bytes 1 status true false, refl)
+told_begins world k (Open head) = ([], sym (append-nil (continue_of head)))
+told_begins world k (Declined status head) = (error_bytes head.minor status true (is_head head.method), refl)
+told_begins world k (Complete head content) = (final_bytes head (is_last_request k head) (plan world k head), refl)
 
-  none_passed : (k : ℕ) (bytes : List ℕ) → Passed k (first_reply world input ∷ rest) bytes → (k ≡ 0) × (bytes ≡ [])
-  none_passed zero bytes passed = (refl, passed)
-  none_passed (suc k) bytes passed = absurd (cc (alone, passed.0))
+pub told_open : (world : World) (k : ℕ) (head : Head) → (reply world k (Open head)).bytes ≡ told_first (Open head)
+told_open world k head = refl
 
-  -- only request 0 is answered, and nothing comes before its reply
-  pub first_alone : (k : ℕ) (bytes : List ℕ) → Passed k (replies_to world input) bytes → (k ≡ 0) × (bytes ≡ [])
-  first_alone k bytes passed = none_passed k bytes (subst (λ (rs : List Reply). Passed k rs bytes) are passed)
+-- whatever is behind the head
+pub told_headed : (head : Head) (bytes : List ℕ) → told_first (headed head bytes) ≡ continue_of head
+told_headed head bytes = by (answer_from (standing_after (begin_of head) bytes).state) (data_in (begin_of head) bytes)
+  where
+    by : (a : Result BodyState BodyRefusal) (content : List ℕ) → told_first (bodied head a content) ≡ continue_of head
+    by (Ok body.NeedMore) content = refl
+    by (Ok body.Done) content = refl
+    by (Err e) content = refl
+
+pub headed_begins : (world : World) (k : ℕ) (head : Head) (bytes : List ℕ) → (rest : List ℕ) × ((reply world k (headed head bytes)).bytes ≡ continue_of head ++ rest)
+headed_begins world k head bytes =
+    let t = told_begins world k (headed head bytes) in
+    (t.0, t.1 ∙ ap (λ l. l ++ t.0) (told_headed head bytes))
+
+-- ---- replies alone
+
+-- the replies from k on
+module _ (r : Reply) (rest : List Reply) where
+  at_passed : (k : ℕ) (rs : List Reply) → drop k rs ≡ r ∷ rest → reply_at k rs ≡ r
+  at_passed zero [] is = absurd (cc (is))
+  at_passed zero (s ∷ rs) is = cc (is)
+  at_passed (suc k) [] is = absurd (cc (is))
+  at_passed (suc k) (s ∷ rs) is = at_passed k rs is
+
+  joined_passed : (k : ℕ) (rs : List Reply) (before : List ℕ) → Passed k rs before → drop k rs ≡ r ∷ rest → joined rs ≡ before ++ joined (r ∷ rest)
+  joined_passed zero rs before passed is = ap joined is ∙ ap (λ l. l ++ joined (r ∷ rest)) (sym passed)
+  joined_passed (suc k) [] before passed is = absurd passed
+  joined_passed (suc k) (s ∷ rs) before passed is =
+      ap (λ t. if t then s.bytes ++ joined rs else s.bytes) passed.0
+      ∙ ap (λ l. s.bytes ++ l) (joined_passed k rs passed.1.0 passed.1.2 is)
+      ∙ sym (append_assoc s.bytes passed.1.0 (joined (r ∷ rest)))
+      ∙ ap (λ l. l ++ joined (r ∷ rest)) (sym passed.1.1)
+
+  final_passed : (k : ℕ) (rs : List Reply) (before : List ℕ) → Passed k rs before → drop k rs ≡ r ∷ rest → final rs ≡ final (r ∷ rest)
+  final_passed zero rs before passed is = ap final is
+  final_passed (suc k) [] before passed is = absurd passed
+  final_passed (suc k) (s ∷ rs) before passed is = ap (λ t. if t then final rs else s) passed.0 ∙ final_passed k rs passed.1.0 passed.1.2 is
+
+  place_passed : (k n t m : ℕ) (rs : List Reply) (before : List ℕ) → Passed k rs before → drop k rs ≡ r ∷ rest → n + k ≡ m → place n (length before + t) rs ≡ place m t (r ∷ rest)
+  place_passed zero n t m rs before passed is count =
+      let none : length before + t ≡ t = omega (arith, ap length passed) in
+      let same : n ≡ m = omega (arith, count) in
+      (λ i. place (same i) (none i) (is i))
+  place_passed (suc k) n t m [] before passed is count = absurd passed
+  place_passed (suc k) n t m (s ∷ rs) before passed is count =
+      let len : length before ≡ length s.bytes + length passed.1.0 = omega (arith, ap length passed.1.1, length-append s.bytes passed.1.0) in
+      let over : nat_le (length s.bytes) (length before + t) ≡ true = grind (arith, nat_tests, len) in
+      let left : length before + t - length s.bytes ≡ length passed.1.0 + t = omega (arith, len) in
+      (λ i. if passed.0 i && over i then place (n + 1) (left i) rs else record { number = n; reply = s; taken = length before + t })
+      ∙ place_passed k (n + 1) t m rs passed.1.0 passed.1.2 is (omega (arith, count))
+
+  next_passed : (k : ℕ) (rs : List Reply) (before : List ℕ) → Passed k rs before → drop k rs ≡ r ∷ rest → is_followed r ≡ true → Passed (suc k) rs (before ++ r.bytes)
+  next_passed zero rs before passed is followed =
+      subst (λ (l : List Reply). Passed (suc zero) l (before ++ r.bytes)) (sym is) (followed, ([], ap (λ l. l ++ r.bytes) passed ∙ sym (append-nil r.bytes), refl))
+  next_passed (suc k) [] before passed is followed = absurd passed
+  next_passed (suc k) (s ∷ rs) before passed is followed =
+      (passed.0, (passed.1.0 ++ r.bytes, ap (λ l. l ++ r.bytes) passed.1.1 ∙ append_assoc s.bytes passed.1.0 r.bytes, next_passed k rs passed.1.0 passed.1.2 is followed))
+
+unique_passed : (k : ℕ) (rs : List Reply) (a b : List ℕ) → Passed k rs a → Passed k rs b → a ≡ b
+unique_passed zero rs a b one two = one ∙ sym two
+unique_passed (suc k) [] a b one two = absurd one
+unique_passed (suc k) (r ∷ rs) a b one two = one.1.1 ∙ ap (λ l. r.bytes ++ l) (unique_passed k rs one.1.0 two.1.0 one.1.2 two.1.2) ∙ sym two.1.1
+
+-- ---- replies to bytes
+
+-- the first k requests are complete, the first of which has number j, and their replies joined are these bytes
+abbrev pub Answered : World → ℕ → ℕ → List ℕ → List ℕ → Type 0
+Answered world j zero bytes before = before ≡ []
+Answered world j (suc k) bytes before = (is_followed (reply world j (request_of bytes)) ≡ true) × ((rest : List ℕ) × (before ≡ (reply world j (request_of bytes)).bytes ++ rest) × Answered world (j + 1) k (rest_of bytes) rest)
+
+module _ (world : World) where
+  -- what comes after a reply that is followed
+  pub following : (j : ℕ) (fuel bytes : List ℕ) → is_followed (reply world j (request_of bytes)) ≡ true
+      → replies world (j + 1) (if is_complete (request_of bytes) then requests_within fuel (rest_of bytes) else []) ≡ replies world (j + 1) (requests_within fuel (rest_of bytes))
+  following j fuel bytes is = ap (λ t. replies world (j + 1) (if t then requests_within fuel (rest_of bytes) else [])) (followed_complete world j (request_of bytes) is)
+
+  -- then the next has less
+  pub lasts : (j : ℕ) (bytes : List ℕ) → is_followed (reply world j (request_of bytes)) ≡ true → length (rest_of bytes) < length bytes
+  lasts j bytes is = rest_shorter bytes (followed_complete world j (request_of bytes) is)
+
+  -- the list of requests is long enough, so what stands there is by bytes alone
+  answered : (k j : ℕ) (fuel bytes before : List ℕ) → length bytes ≤ length fuel → Passed k (replies world j (requests_within fuel bytes)) before → Answered world j k bytes before
+  answered zero j fuel bytes before enough passed = passed
+  answered (suc k) j [] bytes before enough passed = absurd (omega (arith, enough, lasts j bytes passed.0))
+  answered (suc k) j (b ∷ fuel) bytes before enough passed =
+      (passed.0, (passed.1.0, passed.1.1, answered k (j + 1) fuel (rest_of bytes) passed.1.0 (omega (arith, enough, lasts j bytes passed.0)) (subst (λ (rs : List Reply). Passed k rs passed.1.0) (following j fuel bytes passed.0) passed.1.2)))
+
+  passes : (k j : ℕ) (fuel bytes before : List ℕ) → length bytes ≤ length fuel → Answered world j k bytes before → Passed k (replies world j (requests_within fuel bytes)) before
+  passes zero j fuel bytes before enough is = is
+  passes (suc k) j [] bytes before enough is = absurd (omega (arith, enough, lasts j bytes is.0))
+  passes (suc k) j (b ∷ fuel) bytes before enough is =
+      (is.0, (is.1.0, is.1.1, subst (λ (rs : List Reply). Passed k rs is.1.0) (sym (following j fuel bytes is.0)) (passes k (j + 1) fuel (rest_of bytes) is.1.0 (omega (arith, enough, lasts j bytes is.0)) is.1.2)))
+
+  -- the replies from k on
+  reached : (k j m : ℕ) (fuel bytes before : List ℕ) → length bytes ≤ length fuel → j + k ≡ m → Answered world j k bytes before
+      → (rest : List Reply) × (drop k (replies world j (requests_within fuel bytes)) ≡ reply world m (request_of (left_after k bytes)) ∷ rest)
+  reached zero j m [] bytes before enough count is = let same : j ≡ m = omega (arith, count) in ([], ap (λ (n : ℕ). reply world n (request_of bytes) ∷ []) same)
+  reached zero j m (b ∷ fuel) bytes before enough count is =
+      let same : j ≡ m = omega (arith, count) in
+      (replies world (j + 1) (if is_complete (request_of bytes) then requests_within fuel (rest_of bytes) else []), ap (λ (n : ℕ). reply world n (request_of bytes) ∷ replies world (j + 1) (if is_complete (request_of bytes) then requests_within fuel (rest_of bytes) else [])) same)
+  reached (suc k) j m [] bytes before enough count is = absurd (omega (arith, enough, lasts j bytes is.0))
+  reached (suc k) j m (b ∷ fuel) bytes before enough count is =
+      let next = reached k (j + 1) m fuel (rest_of bytes) is.1.0 (omega (arith, enough, lasts j bytes is.0)) (omega (arith, count)) is.1.2 in
+      (next.0, ap (drop k) (following j fuel bytes is.0) ∙ next.1)
+
+  complete_at : (k j i : ℕ) (bytes before : List ℕ) → Answered world j k bytes before → i < k → is_complete (request_of (left_after i bytes)) ≡ true
+  complete_at zero j i bytes before is below = absurd (omega (arith, below))
+  complete_at (suc k) j zero bytes before is below = followed_complete world j (request_of bytes) is.0
+  complete_at (suc k) j (suc i) bytes before is below = complete_at k (j + 1) i (rest_of bytes) is.1.0 is.1.2 (omega (arith, below))
+
+  -- further bytes
+  request_grows : (bytes more : List ℕ) (r : Request) → request_of bytes ≡ r → is_complete r ≡ true → request_of (bytes ++ more) ≡ request_of bytes
+  request_grows bytes more Unfinished at is = absurd (false≢true is)
+  request_grows bytes more (Refused status) at is = absurd (false≢true is)
+  request_grows bytes more (Open head) at is = absurd (false≢true is)
+  request_grows bytes more (Declined status head) at is = absurd (false≢true is)
+  request_grows bytes more (Complete head content) at is = complete_grows bytes more head content at ∙ sym at
+
+  answered_grows : (k j : ℕ) (bytes more before : List ℕ) → Answered world j k bytes before → Answered world j k (bytes ++ more) before
+  answered_grows zero j bytes more before is = is
+  answered_grows (suc k) j bytes more before is =
+      let complete : is_complete (request_of bytes) ≡ true = followed_complete world j (request_of bytes) is.0 in
+      let same : reply world j (request_of (bytes ++ more)) ≡ reply world j (request_of bytes) = ap (reply world j) (request_grows bytes more (request_of bytes) refl complete) in (
+        ap is_followed same ∙ is.0,
+        (
+          is.1.0,
+          is.1.1 ∙ ap (λ (r : Reply). r.bytes ++ is.1.0) (sym same),
+          subst (λ l. Answered world (j + 1) k l is.1.0) (sym (rest_grows bytes more complete)) (answered_grows k (j + 1) (rest_of bytes) more is.1.0 is.1.2),
+        ),
+      )
+
+  left_more : (k j : ℕ) (bytes more before : List ℕ) → Answered world j k bytes before → left_after k (bytes ++ more) ≡ left_after k bytes ++ more
+  left_more zero j bytes more before is = refl
+  left_more (suc k) j bytes more before is =
+      ap (left_after k) (rest_grows bytes more (followed_complete world j (request_of bytes) is.0)) ∙ left_more k (j + 1) (rest_of bytes) more is.1.0 is.1.2
+
+  answered_world : (other : World) (k j m : ℕ) (bytes before : List ℕ) → j + k ≡ m → ((i : ℕ) (r : Request) → i < m → reply other i r ≡ reply world i r) → Answered world j k bytes before → Answered other j k bytes before
+  answered_world other zero j m bytes before count same is = is
+  answered_world other (suc k) j m bytes before count same is =
+      let here : reply other j (request_of bytes) ≡ reply world j (request_of bytes) = same j (request_of bytes) (omega (arith, count)) in
+      (ap is_followed here ∙ is.0, (is.1.0, is.1.1 ∙ ap (λ (r : Reply). r.bytes ++ is.1.0) (sym here), answered_world other k (j + 1) m (rest_of bytes) is.1.0 (omega (arith, count)) same is.1.2))
+
+-- ---- a client's replies
+
+module _ (world : World) (input : List ℕ) (k : ℕ) (before : List ℕ) (passed : Passed k (replies_to world input) before) where
+  pub by_bytes : Answered world 0 k input before
+  by_bytes = answered world k 0 input input before (omega arith) passed
+
+  -- the replies from k on
+  from_here : (rest : List Reply) × (drop k (replies_to world input) ≡ next_reply world input k ∷ rest)
+  from_here = reached world k 0 k input input before (omega arith) (omega arith) by_bytes
+
+  pub passed_reply : reply_at k (replies_to world input) ≡ next_reply world input k
+  passed_reply = at_passed (next_reply world input k) from_here.0 k (replies_to world input) from_here.1
+
+  pub passed_stream : (rest : List Reply) × (stream_of world input ≡ before ++ joined (next_reply world input k ∷ rest))
+  passed_stream = (from_here.0, joined_passed (next_reply world input k) from_here.0 k (replies_to world input) before passed from_here.1)
+
+  pub passed_last : is_followed (next_reply world input k) ≡ false → stream_of world input ≡ before ++ (next_reply world input k).bytes
+  passed_last alone = passed_stream.1 ∙ ap (λ t. before ++ (if t then (next_reply world input k).bytes ++ joined passed_stream.0 else (next_reply world input k).bytes)) alone
+
+  pub passed_final : is_followed (next_reply world input k) ≡ false → final (replies_to world input) ≡ next_reply world input k
+  passed_final alone = final_passed (next_reply world input k) from_here.0 k (replies_to world input) before passed from_here.1 ∙ ap (λ t. if t then final from_here.0 else next_reply world input k) alone
+
+  pub passed_place : (t : ℕ) → (is_followed (next_reply world input k) && nat_le (length (next_reply world input k).bytes) t) ≡ false → place 0 (length before + t) (replies_to world input) ≡ record { number = k; reply = next_reply world input k; taken = t }
+  passed_place t within =
+      place_passed (next_reply world input k) from_here.0 k 0 t k (replies_to world input) before passed from_here.1 (omega arith)
+      ∙ ap (λ b. if b then place (k + 1) (t - length (next_reply world input k).bytes) from_here.0 else record { number = k; reply = next_reply world input k; taken = t }) within
+
+  pub passed_next : is_followed (next_reply world input k) ≡ true → Passed (k + 1) (replies_to world input) (before ++ (next_reply world input k).bytes)
+  passed_next followed =
+      subst (λ (n : ℕ). Passed n (replies_to world input) (before ++ (next_reply world input k).bytes)) (sym (add-one k))
+      (next_passed (next_reply world input k) from_here.0 k (replies_to world input) before passed from_here.1 followed)
+
+  -- further bytes
+  pub passed_grows : (more : List ℕ) → Passed k (replies_to world (input ++ more)) before
+  passed_grows more = passes world k 0 (input ++ more) (input ++ more) before (omega arith) (answered_grows world k 0 input more before by_bytes)
+
+  pub left_grows : (more : List ℕ) → left_after k (input ++ more) ≡ left_after k input ++ more
+  left_grows more = left_more world k 0 input more before by_bytes
+
+  -- another world in which the replies before k are the same
+  pub passed_world : (other : World) → ((j : ℕ) (r : Request) → j < k → reply other j r ≡ reply world j r) → Passed k (replies_to other input) before
+  passed_world other same = passes other k 0 input input before (omega arith) (answered_world world other k 0 k input before (omega arith) same by_bytes)
+
+  pub passed_complete : (j : ℕ) → j < k → is_complete (next_request input j) ≡ true
+  passed_complete j below = complete_at world k 0 j input before by_bytes below
+
+pub passed_unique : (world : World) (input : List ℕ) (k : ℕ) (a b : List ℕ) → Passed k (replies_to world input) a → Passed k (replies_to world input) b → a ≡ b
+passed_unique world input k a b one two = unique_passed k (replies_to world input) a b one two

@@ -1,52 +1,96 @@
--- Worked requests: computed.
-use Rattle.std.proofs.Common.{◌≡◌, ℕ, List, [], ◌++◌, refl}
-use Rattle.std.specs.Prelude.{codes, bytes_eq, if◌then◌else◌}
-use Rattle.lt_world.specs.Disk.{Node, Missing, File}
-use Rattle.server_model.specs.Request.{line_end, empty_line, Unfinished, Refused, Complete, request_of}
-use Rattle.server_model.specs.Plan.{World}
-use Rattle.server_model.specs.Reply.{error_bytes, file_head}
-use Rattle.server_model.specs.Stream.{stream_of}
+-- Worked replies and requests: computed.
+use Rattle.std.proofs.Common.{◌≡◌, ℕ, List, [], ◌∷◌, ◌++◌, length, true, false, refl}
+use Rattle.std.specs.Fmt.{digits}
+use Rattle.std.specs.Prelude.{codes}
+use Rattle.http_head.specs.Head.{head_of}
+use Rattle.http_head.specs.declared.framing.Framing.TheVariants as framed
+use Rattle.http_reply.specs.Phrases.{phrase}
+use Rattle.lt_http_body.specs.declared.state.State.TheVariants as state
+use Rattle.lt_http_body.specs.Standings.{begin, step}
+use Rattle.lt_http_body.specs.Reading.{standing_after, data_in, taken_in}
+use Rattle.server_model.specs.Request.{Unfinished, Refused, front_of, request_of, body_limit}
+use Rattle.server_model.specs.Reply.{error_bytes, file_head, is_accepted}
 
-one_file : List ℕ → Node
-one_file path = if bytes_eq path (codes "/srv/a.txt") then File (codes "hello") 0 else Missing
+abbrev line_end : List ℕ
+line_end = 13 ∷ 10 ∷ []
 
-abbrev world : World
-world = record { client = 0; root = codes "/srv"; tree = one_file; calls = [] }
+abbrev line : List ℕ → List ℕ
+line text = text ++ line_end
 
-abbrev get : List ℕ → List ℕ
-get path = codes "GET " ++ path ++ codes " HTTP/1.1" ++ line_end ++ codes "Host: h" ++ empty_line
-
-reads : request_of (get (codes "/a.txt")) ≡ Complete (codes "/a.txt") []
-reads = refl
-
-found : stream_of world (get (codes "/a.txt")) ≡ file_head 5 ++ codes "hello"
-unfolding one_file
+-- a file of five bytes, to HTTP/1.1 on a connection that goes on: 101 bytes
+found : file_head 1 5 false ++ codes "hello"
+    ≡ line (codes "HTTP/1.1 200 OK") ++ line (codes "Content-Type: application/octet-stream") ++ line (codes "Content-Length: 5") ++ line (codes "Server: lighttpd") ++ line_end ++ codes "hello"
+unfolding phrase digits
 found = refl
 
-missing : stream_of world (get (codes "/no")) ≡ error_bytes 404
-unfolding one_file
-missing = refl
+found_length : length (file_head 1 5 false ++ codes "hello") ≡ 101
+unfolding phrase digits
+found_length = refl
 
-other_method : stream_of world (codes "PUT /a.txt HTTP/1.1" ++ empty_line) ≡ error_bytes 501
-other_method = refl
+-- to HTTP/1.0, which goes no further: 120 bytes
+closed : file_head 0 5 true ++ codes "hello"
+    ≡ line (codes "HTTP/1.0 200 OK") ++ line (codes "Content-Type: application/octet-stream") ++ line (codes "Content-Length: 5") ++ line (codes "Connection: close") ++ line (codes "Server: lighttpd") ++ line_end ++ codes "hello"
+unfolding phrase digits
+closed = refl
 
-hidden : request_of (get (codes "/.a")) ≡ Refused 501
-hidden = refl
+closed_length : length (file_head 0 5 true ++ codes "hello") ≡ 120
+unfolding phrase digits
+closed_length = refl
 
-twice : request_of (get (codes "/a//b")) ≡ Refused 501
-twice = refl
+-- another method than GET and HEAD: 140 bytes
+not_allowed : error_bytes 1 405 false true
+    ≡ line (codes "HTTP/1.1 405 Method Not Allowed") ++ line (codes "Allow: GET, HEAD") ++ line (codes "Content-Type: text/plain") ++ line (codes "Content-Length: 23") ++ line (codes "Server: lighttpd") ++ line_end
+unfolding phrase digits
+not_allowed = refl
 
-dotted : request_of (get (codes "/a.b/c_d-e.F9/")) ≡ Complete (codes "/a.b/c_d-e.F9/") []
-dotted = refl
+not_allowed_length : length (error_bytes 1 405 false false) ≡ 140
+unfolding phrase digits
+not_allowed_length = refl
 
-unfinished : request_of (codes "GET /a.txt HTTP/1.1" ++ line_end) ≡ Unfinished
+-- a head that is refused: 127 bytes
+refused : error_bytes 1 400 true false
+    ≡ line (codes "HTTP/1.1 400 Bad Request") ++ line (codes "Content-Type: text/plain") ++ line (codes "Content-Length: 16") ++ line (codes "Connection: close") ++ line (codes "Server: lighttpd") ++ line_end ++ codes "400 Bad Request" ++ 10 ∷ []
+unfolding phrase digits
+refused = refl
+
+refused_length : length (error_bytes 1 400 true false) ≡ 127
+unfolding phrase digits
+refused_length = refl
+
+-- ---- what comes
+
+unfinished : request_of (line (codes "GET /a.txt HTTP/1.1") ++ line (codes "Host: h")) ≡ Unfinished
+unfolding request_of front_of
 unfinished = refl
 
-bare : request_of (codes "GET / HTTP/1.1" ++ empty_line ++ codes "x") ≡ Complete (codes "/") (codes "x")
-bare = refl
+other_version : request_of (line (codes "GET /a.txt HTTP/2.0") ++ line_end) ≡ Refused 505
+unfolding request_of front_of head_of
+other_version = refl
 
-without_path : request_of (codes "GET  HTTP/1.1" ++ empty_line) ≡ Refused 501
-without_path = refl
+-- ---- bodies
 
-short : request_of (codes "GET" ++ empty_line) ≡ Refused 501
-short = refl
+-- five bytes in a chunk, and the next request behind them
+abbrev chunked : List ℕ
+chunked = line (codes "5") ++ line (codes "hello") ++ line (codes "0") ++ line_end
+
+chunked_data : data_in (begin framed.Chunked body_limit) (chunked ++ codes "GET") ≡ codes "hello"
+unfolding step data_in
+chunked_data = refl
+
+chunked_taken : taken_in (begin framed.Chunked body_limit) (chunked ++ codes "GET") ≡ 15
+unfolding step taken_in
+chunked_taken = refl
+
+chunked_over : (standing_after (begin framed.Chunked body_limit) (chunked ++ codes "GET")).state ≡ state.Whole
+unfolding step standing_after
+chunked_over = refl
+
+-- at the limit and above it
+accepted_at_limit : is_accepted (framed.Length 1048576) body_limit ≡ true
+accepted_at_limit = refl
+
+accepted_no_further : is_accepted (framed.Length 1048577) body_limit ≡ false
+accepted_no_further = refl
+
+accepted_none : is_accepted (framed.Length 0) body_limit ≡ false
+accepted_none = refl

@@ -1,31 +1,32 @@
--- What follows a read or a write of a client: its request is answered, it is closed, or it rests.
-use Rattle.std.proofs.Common.{◌≡◌, ℕ, List, [], ◌∷◌, Bool, true, false, Option, Some, None, refl, sym, ◌∙◌, ap, subst, arith}
+-- What follows a read or a write of a client: its request is taken up and answered, it is closed, or it rests.
+use Rattle.std.proofs.Common.{◌≡◌, ℕ, if◌then◌else◌, drop, List, [], ◌∷◌, ◌++◌, map, Bool, true, false, Option, Some, None, refl, sym, ◌∙◌, ap, subst, arith}
 use Rattle.lt_world.specs.declared.net.Ending.{Ending}
 use Rattle.lt_world.specs.declared.net.Ending.TheVariants as ending
 use Rattle.lt_world.specs.declared.files.FileCall.{FileCall}
 use Rattle.lt_world.specs.declared.files.FileCall.TheVariants as call
 use Rattle.lt_world.specs.Disk.{Disk, Table}
 use Rattle.lt_world.specs.Trace.{Act}
-use Rattle.server_model.specs.Request.{Complete, Refused, request_of}
-use Rattle.server_model.specs.Plan.{World, Outcome, world_of, call_count, plan}
-use Rattle.server_model.specs.Reply.{error_bytes, reply_by}
-use Rattle.server_model.specs.Client.{IsFinished, IsRight}
+use Rattle.server_model.specs.Request.{Head, Complete, Refused, Declined, body_limit}
+use Rattle.server_model.specs.Plan.{World, Outcome, is_head, world_of, call_count, plan}
+use Rattle.server_model.specs.Reply.{is_last_request, error_bytes, continue_bytes, continue_of, final_bytes}
+use Rattle.server_model.specs.Client.{AskedInTurn, IsFinished, IsRight}
 use Rattle.chunkqueue.specs.Items.{Item, Byte, FileByte, bytes_of}
-use Rattle.server_model.specs.Held.{Held}
-use Rattle.server_model.specs.Steps.{number_of, answered, without_file, is_in_memory, is_read_at, is_done}
-use Rattle.server_model.specs.Files.{Fits, FileStep, Drops}
+use Rattle.server_model.specs.Held.{Asking, Held}
+use Rattle.server_model.specs.Steps.{number_of, has_no_items, advanced, accepted, answered, wrote, took, without_file, is_in_memory, is_done}
+use Rattle.server_model.specs.Files.{AllFit, Fits, FileStep, Drops}
 use Rattle.server_model.specs.Planning.{CallsFor, PlansTo}
-use Rattle.server_model.specs.Serves.{IsWaiting, Matches, Stands}
-use Rattle.server_model.specs.Settling.{SettlesOn, SettlesOut, SettlesTo}
-use Rattle.server_model.proofs.FileSteps.{same_files, drops, and_then}
-use Rattle.server_model.proofs.Clients.{awaits, answers, awaits_matches, answers_matches}
-use Rattle.server_model.proofs.Moves.{Asks, asks, answers_plan, answers_refused, answers_without_file}
-use Rattle.server_model.proofs.Settled.{asks_right}
+use Rattle.server_model.specs.Serves.{IsAsking, IsAt, first_unasked, IsWaiting, Matches, Stands}
+use Rattle.server_model.specs.Settling.{SettlesOn, SettlesOut, MayEnd, SettlesTo}
+use Rattle.server_model.proofs.FileSteps.{same_files, drops, and_then, items_alone}
+use Rattle.server_model.proofs.Clients.{IsSettled, IsFreed, given_back, advanced_link, advanced_file, accepted_stays, accepted_link, accepted_file}
+use Rattle.server_model.proofs.Moves.{matches_released}
+use Rattle.server_model.proofs.Advances.{matches_advanced, matches_accepted, asks_other, matches_planned, matches_answered}
+use Rattle.server_model.proofs.Settled.{at_prefix}
 use Rattle.server_model.proofs.Standing.{matches_right, matches_finished, matches_stands}
 use Rattle.server_model.proofs.Stepping.{drops_world}
 
 module _ (root : List ℕ) (held : Held) (files : Type 0) (before : Disk) where
-  pub settle_rests : IsWaiting held.stage held.input → is_done held ≡ false → (files → Fits before.table held) → SettlesOn root held held files before before
+  pub settle_rests : IsWaiting held → is_done held ≡ false → (files → Fits before.table held) → SettlesOn root held held files before before
   settle_rests waiting undone fits = record {
     link = refl;
     does = λ f. same_files held.link before held.file;
@@ -33,12 +34,12 @@ module _ (root : List ℕ) (held : Held) (files : Type 0) (before : Disk) where
     keeps = λ f acts m. matches_stands before.table (world_of root before held.link) held acts m waiting undone;
   }
 
-  pub settle_finishes : (may : Bool) → IsWaiting held.stage held.input → is_done held ≡ true → SettlesOut may root held held ending.Clean files before before
-  settle_finishes may waiting done = record {
+  pub settle_finishes : (may : Bool) → IsSettled held → is_done held ≡ true → SettlesOut may root held held ending.Clean files before before
+  settle_finishes may settled done = record {
     allowed = tt;
     link = refl;
     does = λ f. same_files held.link before held.file;
-    keeps = λ f acts m. (matches_right before.table (world_of root before held.link) held acts m, (λ e. matches_finished before.table (world_of root before held.link) held acts m waiting done));
+    keeps = λ f acts m. (matches_right before.table (world_of root before held.link) held acts m, (λ e. matches_finished before.table (world_of root before held.link) held acts m settled done));
   }
 
   pub settle_yields : (new : Held) → new.link ≡ held.link → new.file ≡ held.file → SettlesOut true root held new ending.NoMemory files before before
@@ -48,6 +49,20 @@ module _ (root : List ℕ) (held : Held) (files : Type 0) (before : Disk) where
     does = λ f. subst (λ (o : Option ℕ). FileStep held.link held.file o before before) (sym file) (same_files held.link before held.file);
     keeps = λ f acts m. (matches_right before.table (world_of root before held.link) held acts m, (λ e. absurd (cc (e))));
   }
+
+-- memory may be wanted in more cases
+pub settle_more : (a b : Bool) (root : List ℕ) (held new : Held) (files : Type 0) (before after : Disk) (result : Option Ending) → (a ≡ true → b ≡ true) → SettlesTo a root held new result files before after → SettlesTo b root held new result files before after
+settle_more a b root held new files before after None weaker s = s
+settle_more a b root held new files before after (Some e) weaker s = record { allowed = may_end e s.allowed; link = s.link; does = s.does; keeps = s.keeps }
+  where
+    may_end : (e : Ending) → MayEnd a e → MayEnd b e
+    may_end ending.Clean may = tt
+    may_end ending.ClientFault may = may
+    may_end ending.FileFault may = may
+    may_end ending.GatewayCut may = may
+    may_end ending.Full may = may
+    may_end ending.NoMemory may = weaker may
+    may_end ending.Gate may = may
 
 -- a change of what is kept, and then what follows
 module _ (may : Bool) (root : List ℕ) (held mid new : Held) (files : Type 0) (before between after : Disk) (link : mid.link ≡ held.link) (does : files → FileStep held.link held.file mid.file before between)
@@ -77,53 +92,79 @@ module _ (may : Bool) (root : List ℕ) (held mid new : Held) (files : Type 0) (
   settle_then None s = settle_on s
   settle_then (Some e) s = settle_out e s
 
-module _ (root : List ℕ) (held : Held) (before between : Disk) (acts : List Act) (path rest : List ℕ) (file : Option ℕ) (reads : is_read_at held.stage ≡ true) (request : request_of held.input ≡ Complete path rest) where
-  -- its request is being planned
-  pub asks_on : CallsFor root held.link (number_of held.stage) file before between → Matches before.table (world_of root before held.link) held acts → Asks (world_of root between held.link) held acts path rest
-  asks_on calls m =
-      let a = awaits before.table (world_of root before held.link) held acts m reads in
-      let first = asks (world_of root before held.link) held acts path rest a request in
-      let zero_is : number_of held.stage ≡ 0 = ap number_of a.stage in
-      record {
-        is_open = first.is_open;
-        sound = first.sound;
-        came = first.came;
-        ended = first.ended;
-        stage = first.stage;
-        request = first.request;
-        output = first.output;
-        above = λ k what past. calls.others k what (λ e. omega (arith, e, zero_is, past)) ∙ first.above k what past;
-      }
+-- the step that what came allows, and then what follows
+pub advance_then : (may : Bool) (root : List ℕ) (held new : Held) (files : Type 0) (before after : Disk) (result : Option Ending) → IsFreed held
+    → SettlesTo may root (advanced held) new result files before after → SettlesTo may root held new result files before after
+advance_then may root held new files before after result freed settles = settle_then may root held (advanced held) new files before before after (advanced_link held)
+    (λ f. subst (λ (o : Option ℕ). FileStep held.link held.file o before before) (sym (advanced_file held)) (same_files held.link before held.file))
+    (λ f acts m. matches_advanced before.table (world_of root before held.link) held acts freed m)
+    result settles
 
+-- items in memory fit behind others
+fits_behind : (table : Table) (file : Option ℕ) (items : List Item) (bytes : List ℕ) → AllFit table file items → AllFit table file (items ++ map Byte bytes)
+fits_behind table file [] [] fit = tt
+fits_behind table file [] (b ∷ bytes) fit = fits_behind table file [] bytes tt
+fits_behind table file (Byte x ∷ items) bytes fit = fits_behind table file items bytes fit
+fits_behind table file (FileByte from at ∷ items) bytes fit = (fit.0, fit.1, fits_behind table file items bytes fit.2)
+
+pub accepted_fits : (table : Table) (held : Held) (limit : ℕ) → Fits table held → Fits table (accepted held limit)
+accepted_fits table held limit fits = accepted_stays (Fits table) held limit (λ k head. record { is_open = fits.is_open; owed = fits_behind table held.file held.owed (continue_bytes head limit) fits.owed }) fits
+
+-- the body of its request is accepted, and then what follows
+pub accept_then : (may : Bool) (root : List ℕ) (held new : Held) (files : Type 0) (before after : Disk) (result : Option Ending) (limit : ℕ) → limit ≡ body_limit
+    → SettlesTo may root (accepted held limit) new result files before after → SettlesTo may root held new result files before after
+accept_then may root held new files before after result limit same settles = settle_then may root held (accepted held limit) new files before before after (accepted_link held limit)
+    (λ f. subst (λ (o : Option ℕ). FileStep held.link held.file o before before) (sym (accepted_file held limit)) (same_files held.link before held.file))
+    (λ f acts m. matches_accepted before.table (world_of root before held.link) held acts limit same m)
+    result settles
+
+module _ (root : List ℕ) (held : Held) (before between : Disk) (acts : List Act) (head : Head) (content : List ℕ) (file : Option ℕ) (asking : held.stage ≡ Asking (number_of held.stage) (Complete head content)) where
+  planned_turn : CallsFor root held.link (number_of held.stage) file before between → Matches before.table (world_of root before held.link) held acts → AskedInTurn (world_of root between held.link) acts
+  planned_turn calls m = matches_planned before.table between.table (world_of root before held.link) (world_of root between held.link) held acts (number_of held.stage) (Complete head content) asking calls.others calls.replies refl m
+
+  -- its request is being planned
   pub calls_right : CallsFor root held.link (number_of held.stage) file before between → Matches before.table (world_of root before held.link) held acts → IsRight (world_of root between held.link) acts
-  calls_right calls m = asks_right (world_of root between held.link) held acts path rest (asks_on calls m)
+  calls_right calls m = record {
+    prefix = at_prefix before.table (world_of root between held.link) held acts (Asking (number_of held.stage) (Complete head content)) (asks_other before.table between.table (world_of root before held.link) (world_of root between held.link) held acts (number_of held.stage) (Complete head content) asking calls.others calls.replies m);
+    in_turn = planned_turn calls m;
+  }
+
+  -- what is owed of what it was told first is in memory
+  owed_stays : CallsFor root held.link (number_of held.stage) file before between → Fits before.table held → Matches before.table (world_of root before held.link) held acts → bytes_of between.table held.owed ≡ bytes_of before.table held.owed
+  owed_stays calls fits m =
+      let at : IsAsking before.table (world_of root before held.link) held acts (number_of held.stage) (Complete head content) = subst (IsAt before.table (world_of root before held.link) held acts) asking m.at in
+      (items_alone before.table between.table held.file held.owed (λ f is. absurd (cc (at.file, is))) fits.owed).1
 
   -- it is answered as is planned
-  pub answer_by : (o : Outcome) (items : List Item) → CallsFor root held.link (number_of held.stage) file before between → PlansTo o root held.link (number_of held.stage) path before between → bytes_of between.table items ≡ (reply_by o).bytes
-      → Matches before.table (world_of root before held.link) held acts → Matches between.table (world_of root between held.link) (answered held rest items file) acts
-  answer_by o items calls plans is m =
-      let a = awaits before.table (world_of root before held.link) held acts m reads in
-      let zero_is : number_of held.stage ≡ 0 = ap number_of a.stage in
-      let none : (what : FileCall) → call_count (world_of root before held.link) (number_of held.stage) what ≡ 0 = λ what. a.unasked (number_of held.stage) what in
-      let planned : plan (world_of root between held.link) 0 path ≡ o = ap (λ (k : ℕ). plan (world_of root between held.link) k path) (sym zero_is) ∙ plans (none call.Find) (none call.Open) in
-      answers_matches between.table (world_of root between held.link) (answered held rest items file) acts
-      (answers_plan between.table (world_of root between held.link) held acts path rest items file (asks_on calls m) (is ∙ ap (λ x. (reply_by x).bytes) (sym planned)))
+  pub answer_by : (o : Outcome) (items : List Item) → CallsFor root held.link (number_of held.stage) file before between → PlansTo o root held.link (number_of held.stage) head before between
+      → bytes_of between.table items ≡ final_bytes head (is_last_request (number_of held.stage) head) o → Fits before.table held
+      → Matches before.table (world_of root before held.link) held acts → Matches between.table (world_of root between held.link) (answered held items file (is_last_request (number_of held.stage) head)) acts
+  answer_by o items calls plans is fits m =
+      let none : (what : FileCall) → call_count (world_of root before held.link) (number_of held.stage) what ≡ 0 = λ what. m.unasked (number_of held.stage) what (omega (arith, ap first_unasked asking)) in
+      let planned : plan (world_of root between held.link) (number_of held.stage) head ≡ o = plans (none call.Find) (none call.Open) in
+      matches_answered before.table between.table (world_of root before held.link) (world_of root between held.link) held acts (number_of held.stage) (Complete head content) asking calls.others calls.replies
+      items file (is_last_request (number_of held.stage) head) (planned_turn calls m) refl refl (owed_stays calls fits m)
+      (ap (λ l. continue_of head ++ l) (is ∙ ap (final_bytes head (is_last_request (number_of held.stage) head)) (sym planned))) m
 
--- a refused head is answered
-pub refuse_by : (root : List ℕ) (held : Held) (disk : Disk) (acts : List Act) (status : ℕ) (items : List Item) → is_read_at held.stage ≡ true → request_of held.input ≡ Refused status → bytes_of disk.table items ≡ error_bytes status
-    → Matches disk.table (world_of root disk held.link) held acts → Matches disk.table (world_of root disk held.link) (answered held held.input items None) acts
-refuse_by root held disk acts status items reads request is m =
-    answers_matches disk.table (world_of root disk held.link) (answered held held.input items None) acts
-    (answers_refused disk.table (world_of root disk held.link) held acts status items (awaits disk.table (world_of root disk held.link) held acts m reads) request is)
+-- a refused head is answered, and a request whose body is refused
+module _ (root : List ℕ) (held : Held) (disk : Disk) (acts : List Act) (status : ℕ) (items : List Item) where
+  pub refuse_by : held.stage ≡ Asking (number_of held.stage) (Refused status) → bytes_of disk.table items ≡ error_bytes 1 status true false
+      → Matches disk.table (world_of root disk held.link) held acts → Matches disk.table (world_of root disk held.link) (answered held items None true) acts
+  refuse_by asking is m = matches_answered disk.table disk.table (world_of root disk held.link) (world_of root disk held.link) held acts (number_of held.stage) (Refused status) asking (λ j what apart. refl) (λ j q apart. refl) items None true m.in_turn refl refl refl is m
+
+  pub decline_by : (head : Head) → held.stage ≡ Asking (number_of held.stage) (Declined status head) → bytes_of disk.table items ≡ error_bytes head.minor status true (is_head head.method)
+      → Matches disk.table (world_of root disk held.link) held acts → Matches disk.table (world_of root disk held.link) (answered held items None true) acts
+  decline_by head asking is m = matches_answered disk.table disk.table (world_of root disk held.link) (world_of root disk held.link) held acts (number_of held.stage) (Declined status head) asking (λ j what apart. refl) (λ j q apart. refl) items None true m.in_turn refl refl refl
+      (ap (λ l. continue_of head ++ l) is) m
 
 -- memory is wanted for its plan, for which calls may have been made
-pub plan_yields : (root : List ℕ) (held new : Held) (files : Type 0) (before after : Disk) (path rest : List ℕ) (file : Option ℕ) → is_read_at held.stage ≡ true → request_of held.input ≡ Complete path rest → new.link ≡ held.link → held.file ≡ None → new.file ≡ file
+pub plan_yields : (root : List ℕ) (held new : Held) (files : Type 0) (before after : Disk) (head : Head) (content : List ℕ) (file : Option ℕ) → held.stage ≡ Asking (number_of held.stage) (Complete head content) → new.link ≡ held.link → held.file ≡ None → new.file ≡ file
     → (files → CallsFor root held.link (number_of held.stage) file before after) → SettlesOut true root held new ending.NoMemory files before after
-plan_yields root held new files before after path rest file reads request link none new_file calls = record {
+plan_yields root held new files before after head content file asking link none new_file calls = record {
   allowed = refl;
   link = link;
   does = λ f. let P : Option ℕ → Option ℕ → Type 0 = λ a b. FileStep held.link a b before after in subst (λ (a : Option ℕ). P a new.file) (sym none) (subst (P None) (sym new_file) (calls f).files);
-  keeps = λ f acts m. (calls_right root held before after acts path rest file reads request (calls f) m, (λ e. absurd (cc (e))));
+  keeps = λ f acts m. (calls_right root held before after acts head content file asking (calls f) m, (λ e. absurd (cc (e))));
 }
 
 -- items in memory are the same bytes, whatever is open
@@ -135,23 +176,10 @@ memory_same a b (FileByte file at ∷ items) is = absurd (cc (is))
 -- a file of which nothing is owed any more is given back
 pub releases : (root : List ℕ) (held : Held) (before between : Disk) (acts : List Act) → is_in_memory held.owed ≡ true → Drops held.file before between
     → Matches before.table (world_of root before held.link) held acts → Matches between.table (world_of root between held.link) (without_file held) acts
-releases root held before between acts memory dropped m = by (is_read_at held.stage) refl
-  where
-    same : world_of root between held.link ≡ world_of root before held.link
-    same = drops_world root held.link before between held.file dropped
-
-    now : Matches between.table (world_of root before held.link) (without_file held) acts → Matches between.table (world_of root between held.link) (without_file held) acts
-    now n = subst (λ (w : World). Matches between.table w (without_file held) acts) (sym same) n
-
-    by : (t : Bool) → is_read_at held.stage ≡ t → Matches between.table (world_of root between held.link) (without_file held) acts
-    by true is =
-        let a = awaits before.table (world_of root before held.link) held acts m is in
-        now (awaits_matches between.table (world_of root before held.link) (without_file held) acts
-        (record { is_open = a.is_open; sound = a.sound; came = a.came; ended = a.ended; stage = a.stage; input = a.input; output = a.output; owed = a.owed; staged = a.staged; file = refl; unasked = a.unasked }))
-    by false is =
-        let a = answers before.table (world_of root before held.link) held acts m is in
-        now (answers_matches between.table (world_of root before held.link) (without_file held) acts
-        (answers_without_file before.table (world_of root before held.link) held acts a between.table (memory_same between.table before.table held.owed memory)))
+releases root held before between acts memory dropped m =
+    let same : world_of root between held.link ≡ world_of root before held.link = drops_world root held.link before between held.file dropped in
+    subst (λ (w : World). Matches between.table w (without_file held) acts) (sym same)
+    (matches_released before.table (world_of root before held.link) held acts m between.table (memory_same between.table before.table held.owed memory))
 
 pub release_then : (may : Bool) (root : List ℕ) (held new : Held) (files : Type 0) (before between after : Disk) (result : Option Ending) → is_in_memory held.owed ≡ true → (files → Drops held.file before between)
     → SettlesTo may root (without_file held) new result files between after → SettlesTo may root held new result files before after
@@ -159,3 +187,20 @@ release_then may root held new files before between after result memory dropped 
     (λ f. drops held.link before between held.file (dropped f))
     (λ f acts m. releases root held before between acts memory (dropped f) m)
     result settles
+
+-- a write, with its file given back once nothing is owed any more, and then what follows
+pub wrote_then : (may : Bool) (root : List ℕ) (held new : Held) (files : Type 0) (before between after : Disk) (n : ℕ) (result : Option Ending) → (files → Drops (given_back held n) before between)
+    → SettlesTo may root (wrote held n) new result files between after → SettlesTo may root (took held n) new result files before after
+wrote_then may root held new files before between after n result dropped settles = by (has_no_items (drop n held.owed)) refl dropped settles
+  where
+    none_left : (items : List Item) → has_no_items items ≡ true → is_in_memory items ≡ true
+    none_left [] is = refl
+    none_left (item ∷ items) is = absurd (cc (is))
+
+    by : (t : Bool) → has_no_items (drop n held.owed) ≡ t → (files → Drops (if t then held.file else None) before between)
+        → SettlesTo may root (if t then without_file (took held n) else took held n) new result files between after → SettlesTo may root (took held n) new result files before after
+    by true none gone s = release_then may root (took held n) new files before between after result (none_left (drop n held.owed) none) gone s
+    by false some same s = settle_then may root (took held n) (took held n) new files before between after refl
+        (λ f. subst (FileStep held.link held.file held.file before) (sym (same f)) (same_files held.link before held.file))
+        (λ f acts m. subst (λ (d : Disk). Matches d.table (world_of root d held.link) (took held n) acts) (sym (same f)) m)
+        result s

@@ -6,11 +6,12 @@ use Rattle.lt_world.specs.Disk.{Disk, Table}
 use Rattle.lt_world.specs.Trace.{Act, Entry, Close}
 use Rattle.server_model.specs.Plan.{World, world_of}
 use Rattle.server_model.specs.Deeds.{Deed, Ours, ours, told, AreDeeds}
+use Rattle.server_model.specs.Open.{open_clients}
 use Rattle.server_model.specs.Client.{IsFinished, IsRight}
 use Rattle.server_model.specs.Held.{Held}
 use Rattle.server_model.specs.Files.{file_of, FitsFor, FileStep, Drops}
 use Rattle.server_model.specs.Serves.{Stands, StandsFor}
-use Rattle.server_model.specs.Turns.{StepsBy, StopsBy, GoesBy}
+use Rattle.server_model.specs.Turns.{open_with, StepsBy, StopsBy, GoesBy}
 use Rattle.server_model.proofs.Owned.{told-append, AreDeeds-append}
 use Rattle.server_model.proofs.FileSteps.{same_files, and_then}
 
@@ -23,17 +24,18 @@ module _ (From : Table → World → Held → List Act → Type 0) (due : World 
   -- nothing is done
   pub step_none : (files → FitsFor before.table (Some held)) → (files → (past : List Deed) → From before.table (world_of root before held.link) held (ours past) → Stands before.table (world_of root before held.link) held (ours past) × due (world_of root before held.link) (world_of root before held.link) past past)
       → StepsBy From due root held (Some held) net files before before old old
-  step_none fits keeps = record { deeds = []; are = tt; gains = λ n. refl; does = λ f. same_files held.link before held.file; fits = fits; keeps = keeps }
+  step_none fits keeps = record { deeds = []; are = tt; gains = λ n. refl; count = λ trace. refl; does = λ f. same_files held.link before held.file; fits = fits; keeps = keeps }
 
   -- these deeds, after which it is to be closed
-  pub step_stops : (e : Ending) (new : Held) (deeds : List Deed) → AreDeeds deeds → (net → now ≡ told held.link deeds old) → new.link ≡ held.link → new.file ≡ held.file
+  pub step_stops : (e : Ending) (new : Held) (deeds : List Deed) → AreDeeds deeds → (net → now ≡ told held.link deeds old) → ((trace : List Entry) → open_clients (told held.link deeds trace) ≡ open_clients trace) → new.link ≡ held.link → new.file ≡ held.file
       → (files → (past : List Deed) → From before.table (world_of root before held.link) held (ours past)
       → IsRight (world_of root before held.link) (ours (deeds ++ past)) × (e ≡ ending.Clean → IsFinished (world_of root before held.link) (ours (deeds ++ past))) × due (world_of root before held.link) (world_of root before held.link) past (Ours (Close e) ∷ deeds ++ past))
       → StopsBy From due root held new e net files before before old now
-  step_stops e new deeds are gains link file keeps = record {
+  step_stops e new deeds are gains count link file keeps = record {
     deeds = deeds;
     are = are;
     gains = gains;
+    count = count;
     link = link;
     does = λ f. subst (λ (o : Option ℕ). FileStep held.link held.file o before before) (sym file) (same_files held.link before held.file);
     keeps = keeps;
@@ -41,14 +43,15 @@ module _ (From : Table → World → Held → List Act → Type 0) (due : World 
 
 -- known deeds and a change of what is kept, before another step
 module _ (From Mid : Table → World → Held → List Act → Type 0) (due rest : World → World → List Deed → List Deed → Type 0) (root : List ℕ) (held mid : Held) (next : Option Held) (net files : Type 0) (before between after : Disk) (old then now : List Entry) where
-  pub then_step : (deeds : List Deed) → AreDeeds deeds → (net → then ≡ told held.link deeds old) → (files → FileStep held.link held.file mid.file before between) → mid.link ≡ held.link
+  pub then_step : (deeds : List Deed) → AreDeeds deeds → (net → then ≡ told held.link deeds old) → ((trace : List Entry) → open_clients (told held.link deeds trace) ≡ open_clients trace) → (files → FileStep held.link held.file mid.file before between) → mid.link ≡ held.link
       → (files → (past : List Deed) → From before.table (world_of root before held.link) held (ours past) → Mid between.table (world_of root between held.link) mid (ours (deeds ++ past)))
       → (files → (past all : List Deed) → From before.table (world_of root before held.link) held (ours past) → rest (world_of root between held.link) (world_of root after held.link) (deeds ++ past) all → due (world_of root before held.link) (world_of root after held.link) past all)
       → StepsBy Mid rest root mid next net files between after then now → StepsBy From due root held next net files before after old now
-  then_step deeds are gains does same from dues step = record {
+  then_step deeds are gains count does same from dues step = record {
     deeds = step.deeds ++ deeds;
     are = AreDeeds-append step.deeds deeds step.are are;
     gains = λ n. step.gains n ∙ (λ i. told (same i) step.deeds (gains n i)) ∙ sym (told-append held.link step.deeds deeds old);
+    count = λ trace. ap open_clients (told-append held.link step.deeds deeds trace) ∙ (λ i. open_clients (told (sym same i) step.deeds (told held.link deeds trace))) ∙ step.count (told held.link deeds trace) ∙ ap (open_with next) (count trace);
     does = λ f. and_then held.link held.file mid.file (file_of next) before between after (does f) (subst (λ (l : ℕ). FileStep l mid.file (file_of next) between after) same (step.does f));
     fits = step.fits;
     keeps = λ f past start.
@@ -63,7 +66,7 @@ module _ (From Mid : Table → World → Held → List Act → Type 0) (due rest
 module _ (From Mid : Table → World → Held → List Act → Type 0) (due : World → World → List Deed → List Deed → Type 0) (root : List ℕ) (held mid new : Held) (net files : Type 0) (before after : Disk) (old now : List Entry)
     (link : mid.link ≡ held.link) (file : mid.file ≡ held.file) (from : files → (acts : List Act) → From before.table (world_of root before held.link) held acts → Mid before.table (world_of root before held.link) mid acts) where
   on_steps : StepsBy Mid due root mid (Some new) net files before after old now → StepsBy From due root held (Some new) net files before after old now
-  on_steps step = then_step From Mid due due root held mid (Some new) net files before before after old old now [] tt (λ n. refl)
+  on_steps step = then_step From Mid due due root held mid (Some new) net files before before after old old now [] tt (λ n. refl) (λ trace. refl)
       (λ f. subst (λ (o : Option ℕ). FileStep held.link held.file o before before) (sym file) (same_files held.link before held.file)) link (λ f past start. from f (ours past) start) (λ f past all start d. d) step
 
   on_stops : (e : Ending) → StopsBy Mid due root mid new e net files before after old now → StopsBy From due root held new e net files before after old now
@@ -71,6 +74,7 @@ module _ (From Mid : Table → World → Held → List Act → Type 0) (due : Wo
     deeds = s.deeds;
     are = s.are;
     gains = λ n. s.gains n ∙ ap (λ (l : ℕ). told l s.deeds old) link;
+    count = λ trace. (λ i. open_clients (told (sym link i) s.deeds trace)) ∙ s.count trace;
     link = s.link ∙ link;
     does = λ f. let P : ℕ → Option ℕ → Type 0 = λ l o. FileStep l o new.file before after in subst (λ (l : ℕ). P l held.file) link (subst (P mid.link) file (s.does f));
     keeps = λ f past start.
@@ -91,6 +95,7 @@ module _ (From : Table → World → Held → List Act → Type 0) (due rest : W
     deeds = s.deeds;
     are = s.are;
     gains = s.gains;
+    count = s.count;
     does = λ f. subst (λ (d : Disk). FileStep held.link held.file (file_of next) d after) (sym (same f)) (s.does f);
     fits = s.fits;
     keeps = λ f past start.
@@ -104,6 +109,7 @@ module _ (From : Table → World → Held → List Act → Type 0) (due rest : W
     deeds = s.deeds;
     are = s.are;
     gains = s.gains;
+    count = s.count;
     link = s.link;
     does = λ f. subst (λ (d : Disk). FileStep held.link held.file new.file d after) (sym (same f)) (s.does f);
     keeps = λ f past start.

@@ -4,24 +4,25 @@ use Rattle.lt_world.specs.Disk.{Disk, Table}
 use Rattle.lt_world.specs.Trace.{Act, Entry, Readable, Writable}
 use Rattle.server_model.specs.Plan.{World, world_of}
 use Rattle.server_model.specs.Deeds.{Deed, own, ours, told, AreDeeds}
+use Rattle.server_model.specs.Open.{open_clients}
 use Rattle.server_model.specs.Client.{is_open}
 use Rattle.server_model.specs.Held.{Held, Serving, kept_at}
 use Rattle.server_model.specs.Files.{file_of, Fits, FitsFor, Backs, FileStep}
 use Rattle.server_model.specs.Serves.{Stands, IsGone, StandsFor, Serves}
 use Rattle.server_model.specs.Due.{Due, DueRead, DueWrite}
-use Rattle.server_model.specs.Turns.{Seen, ReadFailed, Grows, StepsBy, TurnsOn}
+use Rattle.server_model.specs.Turns.{Seen, ReadFailed, Grows, open_with, StepsBy, TurnsOn}
 use Rattle.server_model.proofs.Owned.{own-told}
 use Rattle.server_model.proofs.Frames.{frame, backs_on}
-use Rattle.server_model.proofs.Changing.{Changes}
+use Rattle.server_model.proofs.Changing.{Changes, count_now}
 use Rattle.server_model.proofs.Settled.{unwanted, unowing}
 
 -- an event that is no deed
 abbrev pub IsReady : Act → Type 0
-IsReady event = (client link : ℕ) (trace : List Entry) → own client (record { link = link; act = event } ∷ trace) ≡ own client trace
+IsReady event = (client link : ℕ) (trace : List Entry) → (own client (record { link = link; act = event } ∷ trace) ≡ own client trace) × (open_clients (record { link = link; act = event } ∷ trace) ≡ open_clients trace)
 
 -- what `due` says for a client is what is due for the event
 abbrev pub IsDue : Act → (Seen → Seen → ℕ → World → World → List Deed → List Deed → Type 0) → Type 0
-IsDue event due = (before after : Seen) (client : ℕ) (was is : World) (past now : List Deed) → due before after client was is past now → Due event (λ k. ReadFailed client k before after) was is past now
+IsDue event due = (before after : Seen) (client : ℕ) (was is : World) (past now : List Deed) → due before after client was is past now → (open_now : ℕ) → Due open_now event (λ k. ReadFailed client k before after) was is past now
 
 abbrev pub due_read : Seen → Seen → ℕ → World → World → List Deed → List Deed → Type 0
 due_read before after client was is past now = DueRead was is past now
@@ -30,16 +31,16 @@ abbrev pub due_write : Seen → Seen → ℕ → World → World → List Deed �
 due_write before after client was is past now = DueWrite (λ k. ReadFailed client k before after) was is past now
 
 pub readable_ready : IsReady Readable
-readable_ready client link trace = refl
+readable_ready client link trace = (refl, refl)
 
 pub writable_ready : IsReady Writable
-writable_ready client link trace = refl
+writable_ready client link trace = (refl, refl)
 
 pub readable_due : IsDue Readable due_read
-readable_due before after client was is past now d = d
+readable_due before after client was is past now d open_now = d
 
 pub writable_due : IsDue Writable due_write
-writable_due before after client was is past now d = d
+writable_due before after client was is past now d open_now = d
 
 -- the parts of a step as those of the table
 module _ (link : ℕ) (table next : List Held) (held : Held) (now : Option Held) (before after : Disk) (kept : kept_at link table ≡ Some held) (change : Changes link table next now) where
@@ -54,10 +55,10 @@ module _ (link : ℕ) (table next : List Held) (held : Held) (now : Option Held)
   pub backs_step : Backs before.table table → FileStep link held.file (file_of now) before after → FitsFor after.table now → Backs after.table next
   backs_step backs does fits = backs_on link before after table next backs (files_at does) (fits_at fits) change.others
 
-  pub frame_step : (root : List ℕ) (trace : List Entry) (deeds : List Deed) → Backs before.table table → FileStep link held.file (file_of now) before after → FitsFor after.table now → AreDeeds deeds
+  pub frame_step : (root : List ℕ) (trace : List Entry) (deeds : List Deed) → Backs before.table table → FileStep link held.file (file_of now) before after → FitsFor after.table now → AreDeeds deeds → open_clients (told link deeds trace) ≡ open_with now (open_clients trace)
       → Serves before (record { root = root; table = table }) trace → StandsFor after.table (world_of root after link) now (deeds ++ own link trace) → Serves after (record { root = root; table = next }) (told link deeds trace)
-  frame_step root trace deeds backs does fits are serves here =
-      frame link before after table next backs (files_at does) (fits_at fits) change.others root trace deeds are serves
+  frame_step root trace deeds backs does fits are count serves here =
+      frame link before after table next backs (files_at does) (fits_at fits) change.others root trace deeds are (count ∙ ap (open_with now) serves.count ∙ sym (count_now link table next held now kept change)) serves
       (subst (λ k. StandsFor after.table (world_of root after link) k (deeds ++ own link trace)) (sym change.here) here)
 
 -- the fit of what is kept
@@ -67,7 +68,8 @@ kept_fits opened link table held kept backs = subst (FitsFor opened) kept (backs
 -- an event that is no deed changes no list of deeds
 serves_ready : (event : Act) (link : ℕ) (disk : Disk) (server : Serving) (trace : List Entry) → IsReady event → Serves disk server trace → Serves disk server (record { link = link; act = event } ∷ trace)
 serves_ready event link disk server trace ready serves = record {
-  each = λ o. subst (StandsFor disk.table (world_of server.root disk o) (kept_at o server.table)) (sym (ready o link trace)) (serves.each o);
+  each = λ o. subst (StandsFor disk.table (world_of server.root disk o) (kept_at o server.table)) (sym (ready o link trace).0) (serves.each o);
+  count = (ready link link trace).1 ∙ serves.count;
   opened = serves.opened;
 }
 
@@ -83,16 +85,16 @@ module _ (event : Act) (due : Seen → Seen → ℕ → World → World → List
 
   own_now : net → (trace : List Entry) → old ≡ record { link = held.link; act = event } ∷ trace → own held.link told_now ≡ step.deeds ++ own held.link trace
   own_now n trace gained =
-      ap (own held.link) (gains_now n trace gained) ∙ own-told held.link step.deeds (record { link = held.link; act = event } ∷ trace) step.are ∙ ap (λ d. step.deeds ++ d) (ready held.link held.link trace)
+      ap (own held.link) (gains_now n trace gained) ∙ own-told held.link step.deeds (record { link = held.link; act = event } ∷ trace) step.are ∙ ap (λ d. step.deeds ++ d) (ready held.link held.link trace).0
 
   -- a step of a client that is kept is a turn of the server
   pub turn_step : before.faults ≤ after.faults → TurnsOn event held.link (record { root = root; table = table }) (record { root = root; table = next }) net files before after old told_now
   turn_step rises n f trace gained new serves =
       let both = step.keeps f (own held.link trace) (stands trace serves) in
-      let here = subst (λ d. StandsFor after.disk.table (world_of root after.disk held.link) now (step.deeds ++ d)) (sym (ready held.link held.link trace)) both.0 in
+      let here = subst (λ d. StandsFor after.disk.table (world_of root after.disk held.link) now (step.deeds ++ d)) (sym (ready held.link held.link trace).0) both.0 in
       let P : List Entry → Type 0 = Serves after.disk (record { root = root; table = next }) in (
         subst P (sym (gains_now n trace gained))
-            (frame_step held.link table next held now before.disk after.disk kept change root (record { link = held.link; act = event } ∷ trace) step.deeds (backs f) (step.does f) (step.fits f) step.are
+            (frame_step held.link table next held now before.disk after.disk kept change root (record { link = held.link; act = event } ∷ trace) step.deeds (backs f) (step.does f) (step.fits f) step.are (step.count (record { link = held.link; act = event } ∷ trace))
             (serves_ready event held.link before.disk (record { root = root; table = table }) trace ready serves) here),
         record {
           link = held.link;
@@ -102,8 +104,8 @@ module _ (event : Act) (due : Seen → Seen → ℕ → World → World → List
           due = (
             refl,
             step.are,
-            subst (Due event (λ k. ReadFailed held.link k before after) (world_of root before.disk held.link) (world_of root after.disk held.link) (own held.link trace)) (sym (own_now n trace gained))
-                (is_due before after held.link (world_of root before.disk held.link) (world_of root after.disk held.link) (own held.link trace) (step.deeds ++ own held.link trace) both.1),
+            subst (Due (open_clients trace) event (λ k. ReadFailed held.link k before after) (world_of root before.disk held.link) (world_of root after.disk held.link) (own held.link trace)) (sym (own_now n trace gained))
+                (is_due before after held.link (world_of root before.disk held.link) (world_of root after.disk held.link) (own held.link trace) (step.deeds ++ own held.link trace) both.1 (open_clients trace)),
           );
           grows = record { tree = (step.does f).tree; log = (step.does f).log; faults = rises };
         },
@@ -114,13 +116,13 @@ grows_none seen = record { tree = refl; log = ([], refl); faults = omega arith }
 
 -- nothing is due for a link that isn't kept
 abbrev pub IsQuiet : Act → Type 0
-IsQuiet event = (client : ℕ) (seen : Seen) (world : World) (deeds : List Deed) → is_open (ours deeds) ≡ false → Due event (λ k. ReadFailed client k seen seen) world world deeds deeds
+IsQuiet event = (client : ℕ) (seen : Seen) (world : World) (deeds : List Deed) → is_open (ours deeds) ≡ false → (open_now : ℕ) → Due open_now event (λ k. ReadFailed client k seen seen) world world deeds deeds
 
 pub readable_quiet : IsQuiet Readable
-readable_quiet client seen world deeds shut = DueRead.idle (unwanted world (ours deeds) shut)
+readable_quiet client seen world deeds shut open_now = DueRead.idle (unwanted world (ours deeds) shut)
 
 pub writable_quiet : IsQuiet Writable
-writable_quiet client seen world deeds shut = DueWrite.idle (unowing world (ours deeds) shut)
+writable_quiet client seen world deeds shut open_now = DueWrite.idle (unowing world (ours deeds) shut)
 
 pub none_gone : (link : ℕ) (disk : Disk) (server : Serving) (trace : List Entry) → kept_at link server.table ≡ None → Serves disk server trace → IsGone (world_of server.root disk link) (own link trace)
 none_gone link disk server trace none serves = let P : Option Held → Type 0 = λ k. StandsFor disk.table (world_of server.root disk link) k (own link trace) in subst P none (serves.each link)
@@ -128,7 +130,7 @@ none_gone link disk server trace none serves = let P : Option Held → Type 0 = 
 pub turn_out : (event : Act) → IsReady event → IsQuiet event → (link : ℕ) (server : Serving) (net files : Type 0) (seen : Seen) (old : List Entry) → kept_at link server.table ≡ None → TurnsOn event link server server net files seen seen old old
 turn_out event ready quiet link server net files seen old none n f trace gained new serves =
     let P : List Entry → Type 0 = Serves seen.disk server in
-    let same : own link old ≡ own link trace = ap (own link) gained ∙ ready link link trace in (
+    let same : own link old ≡ own link trace = ap (own link) gained ∙ (ready link link trace).0 in (
       subst P (sym gained) (serves_ready event link seen.disk server trace ready serves),
       record {
         link = link;
@@ -138,8 +140,8 @@ turn_out event ready quiet link server net files seen old none n f trace gained 
         due = (
           refl,
           tt,
-          subst (Due event (λ k. ReadFailed link k seen seen) (world_of server.root seen.disk link) (world_of server.root seen.disk link) (own link trace)) (sym same)
-              (quiet link seen (world_of server.root seen.disk link) (own link trace) (none_gone link seen.disk server trace none serves).shut),
+          subst (Due (open_clients trace) event (λ k. ReadFailed link k seen seen) (world_of server.root seen.disk link) (world_of server.root seen.disk link) (own link trace)) (sym same)
+              (quiet link seen (world_of server.root seen.disk link) (own link trace) (none_gone link seen.disk server trace none serves).shut (open_clients trace)),
         );
         grows = grows_none seen;
       },

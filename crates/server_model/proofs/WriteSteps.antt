@@ -1,5 +1,5 @@
 -- The steps of a client at a Writable event: each outcome of the one write, or of the read of the file before it.
-use Rattle.std.proofs.Common.{◌≡◌, ℕ, zero, suc, ◌≤◌, ◌<◌, List, [], ◌∷◌, ◌++◌, length, take, drop, Bool, true, false, nat_lt, nat_le, Option, Some, refl, sym, ◌∙◌, ap, subst, arith, take-append-drop, length-take}
+use Rattle.std.proofs.Common.{◌≡◌, ℕ, zero, suc, ◌≤◌, ◌<◌, List, [], ◌∷◌, ◌++◌, length, take, drop, Bool, true, false, nat_lt, nat_le, Option, Some, refl, sym, ◌∙◌, ap, subst, arith, take-append-drop, length-take, length-drop, not, ◌||◌, if◌then◌else◌}
 use Rattle.std.proofs.lemmas.List.{take-map}
 use Rattle.std.proofs.lemmas.Bool.Decides.{nat_tests}
 use Rattle.lt_world.specs.declared.net.Ending.{Ending}
@@ -11,19 +11,21 @@ use Rattle.server_model.specs.Stream.{IsPrefix}
 use Rattle.server_model.specs.Deeds.{Deed, Ours, ours, told}
 use Rattle.server_model.specs.Client.{current, owed, owes}
 use Rattle.chunkqueue.specs.Items.{Item, Byte, FileByte, bytes_of, item_byte, Leads, Shows}
-use Rattle.server_model.specs.Held.{Held}
-use Rattle.server_model.specs.Steps.{number_of, took, staged, is_read_at}
-use Rattle.server_model.specs.Files.{Fits}
-use Rattle.server_model.specs.Serves.{Matches, Stands}
-use Rattle.server_model.specs.Due.{DueSettles, DueWrite, Settles, IsWriteAct, offer_limit, may_want_after_write}
+use Rattle.lt_http_body.specs.Standings.{is_over}
+use Rattle.server_model.specs.Held.{Stage, Awaiting, Heading, Taking, Asking, Answering, Held}
+use Rattle.server_model.specs.Steps.{number_of, has_no_items, has_no_bytes, took, without_file, wrote, staged, looks_at, looks}
+use Rattle.server_model.specs.Files.{Fits, Drops}
+use Rattle.server_model.specs.Serves.{IsAt, IsWaitingAt, Stands}
+use Rattle.server_model.specs.Due.{DueSettles, DueWrite, Settles, IsWriteAct, offer_limit}
 use Rattle.server_model.specs.Turns.{StepsBy, StopsBy, GoesBy}
 use Rattle.server_model.specs.Settling.{SettlesTo}
 use Rattle.server_model.proofs.FileSteps.{same_files}
-use Rattle.server_model.proofs.Clients.{AnswersFirst, awaits, answers, answers_matches}
-use Rattle.server_model.proofs.Moves.{answers_took, answers_staged}
-use Rattle.server_model.proofs.Settled.{number_is, length-bytes_of, fails_right}
 use Rattle.server_model.proofs.Planned.{memory_bytes}
-use Rattle.server_model.proofs.Standing.{matches_right, stands_owed, stands_owes, stands_not_yet, stands_rests}
+use Rattle.server_model.proofs.Clients.{given_back}
+use Rattle.server_model.proofs.Moves.{no_items, matches_shows, matches_took}
+use Rattle.server_model.proofs.Settled.{and_true, length-bytes_of, fails_right}
+use Rattle.server_model.proofs.Standing.{matches_right, stands_number, stands_owed, stands_owes, stands_not_yet, stands_staged, stands_rests}
+use Rattle.server_model.proofs.SettleSteps.{wrote_then}
 use Rattle.server_model.proofs.Stepping.{step_none, step_stops, then_step, on_goes}
 use Rattle.server_model.proofs.Going.{then_settles}
 
@@ -58,13 +60,31 @@ module _ (table : Table) (items : List Item) (front : List ℕ) (shows : Shows t
 some_owed : (world : World) (acts : List Act) (due : List ℕ) → owes world acts ≡ nat_lt 0 (length due) → 0 < length due → owes world acts ≡ true
 some_owed world acts due is some = let yes : nat_lt 0 (length due) ≡ true = grind (arith, nat_tests, some) in is ∙ yes
 
--- something is owed to it
-pub answers_some : (opened : Table) (world : World) (held : Held) (acts : List Act) → Matches opened world held acts → 0 < length held.owed → AnswersFirst opened world held acts
-answers_some opened world held acts m some = by (is_read_at held.stage) refl
+-- memory may be wanted in more cases
+settles_more : (world : World) (a b : Bool) → (a ≡ true → b ≡ true) → (past now : List Deed) → Settles world a past now → Settles world b past now
+settles_more world a b weaker past now (Settles.rests r) = Settles.rests r
+settles_more world a b weaker past now (Settles.finishes f s) = Settles.finishes f s
+settles_more world a b weaker past now (Settles.fails f) = Settles.fails f
+settles_more world a b weaker past now (Settles.yields m) = Settles.yields (weaker m)
+
+-- what came is looked at only once all of a reply was taken
+looks_wrote : (held : Held) (n : ℕ) → looks (wrote held n) ≡ looks_at held.stage held.input (drop n held.owed)
+looks_wrote held n = by (has_no_items (drop n held.owed))
   where
-    by : (t : Bool) → is_read_at held.stage ≡ t → AnswersFirst opened world held acts
-    by true is = let a = awaits opened world held acts m is in absurd (omega (arith, some, ap length a.owed))
-    by false is = answers opened world held acts m is
+    by : (t : Bool) → looks (if t then without_file (took held n) else took held n) ≡ looks_at held.stage held.input (drop n held.owed)
+    by true = refl
+    by false = refl
+
+looks_all : (opened : Table) (world : World) (held : Held) (acts : List Act) (n : ℕ) (s : Stage) → IsAt opened world held acts s → IsWaitingAt s held.input held.owed → 0 < length held.owed → looks_at s held.input (drop n held.owed) ≡ true → length held.owed ≤ n
+looks_all opened world held acts n (Awaiting k) at waiting some is = absurd (omega (arith, some, ap length at.owed))
+looks_all opened world held acts n (Heading k head) at waiting some is = absurd waiting
+looks_all opened world held acts n (Taking k head s content) at waiting some is =
+    let still : (not (has_no_bytes held.input) || is_over s.state) ≡ false = (λ i. not (has_no_bytes (waiting.0 i)) || waiting.1 i) in
+    absurd (cc (still, is))
+looks_all opened world held acts n (Asking k r) at waiting some is = absurd waiting
+looks_all opened world held acts n (Answering k last) at waiting some is =
+    let none : drop n held.owed ≡ [] = no_items (drop n held.owed) (and_true (not last) (has_no_items (drop n held.owed)) is).1 in
+    omega (arith, ap length none, length-drop n held.owed)
 
 module _ (failed : ℕ → Type 0) (root : List ℕ) (held : Held) (net files : Type 0) (before : Disk) where
   -- nothing is owed
@@ -77,10 +97,9 @@ module _ (failed : ℕ → Type 0) (root : List ℕ) (held : Held) (net files : 
 
   -- the read of the file failed
   pub write_faults : (old : List Entry) (new : Held) → 0 < length held.owed → (files → failed (number_of held.stage)) → new.link ≡ held.link → new.file ≡ held.file → StopsBy Stands (DueWrite failed) root held new ending.FileFault net files before before old old
-  write_faults old new some fault link file = step_stops Stands (DueWrite failed) root held net files before old old ending.FileFault new [] tt (λ n. refl) link file
+  write_faults old new some fault link file = step_stops Stands (DueWrite failed) root held net files before old old ending.FileFault new [] tt (λ n. refl) (λ trace. refl) link file
       (λ f past s.
-      let a = answers_some before.table (world_of root before held.link) held (ours past) s.matches some in
-      let same : number_of held.stage ≡ (current (world_of root before held.link) (ours past)).number = ap number_of a.stage ∙ sym (number_is (world_of root before held.link) (ours past)) in
+      let same : number_of held.stage ≡ (current (world_of root before held.link) (ours past)).number = sym (stands_number before.table (world_of root before held.link) held (ours past) s) in
       (matches_right before.table (world_of root before held.link) held (ours past) s.matches, (λ e. absurd (cc (e))), DueWrite.faults (owing past some s) (subst failed same (fault f))))
 
   module _ (old now : List Entry) (front : List ℕ) (leads : Leads held.owed held.staged front) (some : 1 ≤ length front) (most : length front ≤ offer_limit) where
@@ -88,44 +107,44 @@ module _ (failed : ℕ → Type 0) (root : List ℕ) (held : Held) (net files : 
     some_first = leads_some held.owed held.staged front leads some
 
     shown : (past : List Deed) → Stands before.table (world_of root before held.link) held (ours past) → Shows before.table held.owed front
-    shown past s = front_shows before.table held.owed held.staged front leads (answers_some before.table (world_of root before held.link) held (ours past) s.matches some_first).shows
+    shown past s = front_shows before.table held.owed held.staged front leads (matches_shows before.table (world_of root before held.link) held (ours past) s.matches some_first)
 
     pub write_not_yet : (net → now ≡ told held.link (Ours (NotYet Writing) ∷ []) old) → (files → Fits before.table held) → StepsBy Stands (DueWrite failed) root held (Some held) net files before before old now
-    write_not_yet gains fits = then_step Stands Stands (DueWrite failed) (DueSettles false) root held held (Some held) net files before before before old now now (Ours (NotYet Writing) ∷ []) (refl, tt) gains (λ f. same_files held.link before held.file) refl
+    write_not_yet gains fits = then_step Stands Stands (DueWrite failed) (DueSettles false) root held held (Some held) net files before before before old now now (Ours (NotYet Writing) ∷ []) (refl, tt) gains (λ trace. refl) (λ f. same_files held.link before held.file) refl
         (λ f past s. stands_not_yet before.table (world_of root before held.link) held (ours past) Writing s)
         (λ f past all s settles. DueWrite.writes (NotYet Writing) (owing past some_first s) tt settles)
         (step_none Stands (DueSettles false) root held net files before now now fits (λ f past s. (s, Settles.rests (stands_rests before.table (world_of root before held.link) held past s))))
 
     pub write_failed : (net → now ≡ told held.link (Ours (Failed Writing) ∷ []) old) → StopsBy Stands (DueWrite failed) root held held ending.ClientFault net files before before old now
-    write_failed gains = step_stops Stands (DueWrite failed) root held net files before old now ending.ClientFault held (Ours (Failed Writing) ∷ []) (refl, tt) gains refl refl
+    write_failed gains = step_stops Stands (DueWrite failed) root held net files before old now ending.ClientFault held (Ours (Failed Writing) ∷ []) (refl, tt) gains (λ trace. refl) refl refl
         (λ f past s. (
           fails_right (world_of root before held.link) (ours past) Writing (matches_right before.table (world_of root before held.link) held (ours past) s.matches),
           (λ e. absurd (cc (e))),
           DueWrite.writes (Failed Writing) (owing past some_first s) tt (Settles.fails refl),
         ))
 
-    -- it took some bytes, and then what follows
-    pub write_then : (after : Disk) (new : Held) (result : Option Ending) (n : ℕ) → n ≤ length front → (net → now ≡ told held.link (Ours (Wrote (length front) (take n front)) ∷ []) old)
-        → SettlesTo (nat_le (length held.owed) (length (take n front))) root (took held n) new result files before after → GoesBy Stands (DueWrite failed) root held new result net files before after old now
-    write_then after new result n le gains settles_to = then_settles Stands (DueWrite failed) (nat_le (length held.owed) (length (take n front))) root held (took held n) new net files before after old now
-        (Ours (Wrote (length front) (take n front)) ∷ []) (refl, tt) gains refl refl
-        (λ f past s. answers_matches before.table (world_of root before held.link) (took held n) (Wrote (length front) (take n front) ∷ ours past)
-        (answers_took before.table (world_of root before held.link) held (ours past) (answers_some before.table (world_of root before held.link) held (ours past) s.matches some_first) n (length front) (take n front) (front_taken before.table held.owed front (shown past s) n le)))
-        (λ f past all s settles.
+    -- it took some bytes, its file is given back once nothing is owed any more, and then what follows
+    pub write_then : (between after : Disk) (new : Held) (result : Option Ending) (n : ℕ) → n ≤ length front → (net → now ≡ told held.link (Ours (Wrote (length front) (take n front)) ∷ []) old) → (files → Drops (given_back held n) before between)
+        → SettlesTo (looks (wrote held n)) root (wrote held n) new result files between after → GoesBy Stands (DueWrite failed) root held new result net files before after old now
+    write_then between after new result n le gains dropped settles = then_settles Stands (DueWrite failed) (looks (wrote held n)) root held (took held n) new net files before after old now
+        (Ours (Wrote (length front) (take n front)) ∷ []) (refl, tt) gains (λ trace. refl) refl refl
+        (λ f past s. matches_took before.table (world_of root before held.link) held (ours past) n (length front) (take n front) (front_taken before.table held.owed front (shown past s) n le) s.matches some_first)
+        (λ f past all s settled.
         let due : owed (world_of root before held.link) (ours past) ≡ bytes_of before.table held.owed = stands_owed before.table (world_of root before held.link) held (ours past) s in
         let act : IsWriteAct (owed (world_of root before held.link) (ours past)) (Wrote (length front) (take n front)) = subst (λ (d : List ℕ). IsWriteAct d (Wrote (length front) (take n front))) (sym due) (some, most, front_within before.table held.owed front (shown past s), front_prefix before.table held.owed front (shown past s) n le) in
-        let may : nat_le (length held.owed) (length (take n front)) ≡ may_want_after_write (owed (world_of root before held.link) (ours past)) (Wrote (length front) (take n front)) =
-        ap (λ (k : ℕ). nat_le k (length (take n front))) (sym (length-bytes_of before.table held.owed)) ∙ ap (λ (d : List ℕ). nat_le (length d) (length (take n front))) (sym due) in
-        DueWrite.writes (Wrote (length front) (take n front)) (owing past some_first s) act (subst (λ (b : Bool). Settles (world_of root after held.link) b (Ours (Wrote (length front) (take n front)) ∷ past) all) may settles))
-        result settles_to
+        let count : length (owed (world_of root before held.link) (ours past)) ≡ length held.owed = ap length due ∙ length-bytes_of before.table held.owed in
+        let may : looks (wrote held n) ≡ true → nat_le (length (owed (world_of root before held.link) (ours past))) (length (take n front)) ≡ true = λ is.
+        let all_taken = looks_all before.table (world_of root before held.link) held (ours past) n held.stage s.matches.at s.waiting some_first (sym (looks_wrote held n) ∙ is) in
+        let taken : length (take n front) ≡ n = omega (arith, length-take n front, le) in
+        grind (arith, nat_tests, all_taken, count, taken) in
+        DueWrite.writes (Wrote (length front) (take n front)) (owing past some_first s) act (settles_more (world_of root after held.link) (looks (wrote held n)) (nat_le (length (owed (world_of root before held.link) (ours past))) (length (take n front))) may (Ours (Wrote (length front) (take n front)) ∷ past) all settled))
+        result (wrote_then (looks (wrote held n)) root held new files before between after n result dropped settles)
 
   -- the front was read from its file, and then what follows
   pub staged_then : (bytes : List ℕ) (new : Held) (result : Option Ending) (after : Disk) (old now : List Entry) → 0 < length held.owed → (files → Shows before.table held.owed held.staged → Shows before.table held.owed bytes)
       → GoesBy Stands (DueWrite failed) root (staged held bytes) new result net files before after old now → GoesBy Stands (DueWrite failed) root held new result net files before after old now
   staged_then bytes new result after old now some reads goes = on_goes Stands Stands (DueWrite failed) root held (staged held bytes) new net files before after old now refl refl
-      (λ f acts s.
-      let a = answers_some before.table (world_of root before held.link) held acts s.matches some in
-      record { matches = answers_matches before.table (world_of root before held.link) (staged held bytes) acts (answers_staged before.table (world_of root before held.link) held acts a bytes (reads f a.shows)); waiting = s.waiting; unfinished = s.unfinished })
+      (λ f acts s. stands_staged before.table (world_of root before held.link) held acts bytes (reads f (matches_shows before.table (world_of root before held.link) held acts s.matches some)) some s)
       result goes
 
 -- a read that failed for one reason failed for a weaker one

@@ -1,11 +1,11 @@
 -- One client, by the acts of its link, the newest first, and by its world.
-use Rattle.std.specs.Prelude.{◌≡◌, ℕ, ◌<◌, List, [], ◌∷◌, ◌++◌, length, nat_lt, Bool, true, false, not, ◌&&◌, Option, Some, None}
+use Rattle.std.specs.Prelude.{◌≡◌, ℕ, ◌<◌, List, [], ◌∷◌, ◌++◌, length, nat_lt, nat_le, Bool, true, false, not, ◌&&◌, Option, Some, None}
 use Rattle.lt_world.specs.declared.net.Address.{Address}
 use Rattle.lt_world.specs.declared.net.Ending.{Ending}
 use Rattle.lt_world.specs.declared.net.Ending.TheVariants as ending
 use Rattle.lt_world.specs.declared.files.FileCall.{FileCall}
 use Rattle.lt_world.specs.Trace.{Act, Accepted, Read, ReadEnd, Failed, Wrote, Close}
-use Rattle.server_model.specs.Request.{request_of, is_complete}
+use Rattle.server_model.specs.Request.{request_of, rest_of, is_complete}
 use Rattle.server_model.specs.Plan.{World, call_count}
 use Rattle.server_model.specs.Reply.{Extent, Growing, Whole, Reply}
 use Rattle.server_model.specs.Stream.{IsPrefix, is_whole, final, Place, place, remainder, Passed, left_after, replies_to, stream_of}
@@ -69,9 +69,21 @@ owed world acts = remainder (current world acts)
 abbrev pub is_last : Reply → Bool
 is_last r = is_whole r.extent && r.last
 
+-- bytes that are held for a client, at most
+abbrev pub input_limit : ℕ
+input_limit = 65536
+
+-- the request at the front of these bytes is whole, and as many bytes follow it as may be held
+abbrev pub is_full : List ℕ → Bool
+is_full bytes = is_complete (request_of bytes) && nat_le input_limit (length (rest_of bytes))
+
+-- from its current request on
+abbrev pub unanswered : World → List Act → List ℕ
+unanswered world acts = left_after (current world acts).number (input_of acts)
+
 -- a read is wanted
 abbrev pub wants : World → List Act → Bool
-wants world acts = is_open acts && not (has_ended acts) && not (is_last (current world acts).reply)
+wants world acts = is_open acts && not (has_ended acts) && not (is_last (current world acts).reply) && not (is_full (unanswered world acts))
 
 -- a write is wanted
 abbrev pub owes : World → List Act → Bool

@@ -1,5 +1,5 @@
 -- What must follow an event, by the deeds of its client up to it.
-use Rattle.std.specs.Prelude.{◌≡◌, ℕ, ◌≤◌, List, ◌∷◌, Bool, true, false, length, nat_le}
+use Rattle.std.specs.Prelude.{◌≡◌, ℕ, ◌<◌, ◌≤◌, List, ◌∷◌, Bool, true, false, length, nat_le}
 use Rattle.lt_world.specs.declared.net.Address.{Address}
 use Rattle.lt_world.specs.declared.net.Ending.TheVariants as ending
 use Rattle.lt_world.specs.Trace.{Act, Reading, Writing, Accepted, Readable, Writable, Read, ReadEnd, NotYet, Failed, Wrote, Close}
@@ -54,10 +54,15 @@ abbrev pub may_want_after_write : List ℕ → Act → Bool
 may_want_after_write due (Wrote offered bytes) = nat_le (length due) (length bytes)
 may_want_after_write due act = false
 
--- a client that arrives may be refused for want of memory
-pub data DueArrival (peer local : Address) (past : List Deed) : List Deed → Type 0 where
-  comes : DueArrival peer local past (Ours (Accepted peer local) ∷ past)
-  refused : DueArrival peer local past (Ours (Close ending.NoMemory) ∷ Ours (Accepted peer local) ∷ past)
+-- clients that are open at once, at most
+abbrev pub connection_limit : ℕ
+connection_limit = 256
+
+-- a client arrives while so many are open: it is closed as one too many exactly where the limit is reached, and may be refused for want of memory
+pub data DueArrival (open_now : ℕ) (peer local : Address) (past : List Deed) : List Deed → Type 0 where
+  comes : open_now < connection_limit → DueArrival open_now peer local past (Ours (Accepted peer local) ∷ past)
+  refused : open_now < connection_limit → DueArrival open_now peer local past (Ours (Close ending.NoMemory) ∷ Ours (Accepted peer local) ∷ past)
+  full : connection_limit ≤ open_now → DueArrival open_now peer local past (Ours (Close ending.Full) ∷ Ours (Accepted peer local) ∷ past)
 
 -- exactly one read where the client wants one, else nothing; the world before and after the turn
 pub data DueRead (before after : World) (past : List Deed) : List Deed → Type 0 where
@@ -71,9 +76,9 @@ pub data DueWrite (failed : ℕ → Type 0) (before after : World) (past : List 
       → Settles after (may_want_after_write (owed before (ours past)) act) (Ours act ∷ past) now → DueWrite failed before after past now
   faults : owes before (ours past) ≡ true → failed (current before (ours past)).number → DueWrite failed before after past (Ours (Close ending.FileFault) ∷ past)
 
--- what must follow an event of a client; `failed` says for which request a read of a file failed in this turn
-abbrev pub Due : Act → (ℕ → Type 0) → World → World → List Deed → List Deed → Type 0
-Due (Accepted peer local) failed before after past now = DueArrival peer local past now
-Due Readable failed before after past now = DueRead before after past now
-Due Writable failed before after past now = DueWrite failed before after past now
-Due act failed before after past now = ⊥
+-- what must follow an event of a client, while so many clients are open; `failed` says for which request a read of a file failed in this turn
+abbrev pub Due : ℕ → Act → (ℕ → Type 0) → World → World → List Deed → List Deed → Type 0
+Due open_now (Accepted peer local) failed before after past now = DueArrival open_now peer local past now
+Due open_now Readable failed before after past now = DueRead before after past now
+Due open_now Writable failed before after past now = DueWrite failed before after past now
+Due open_now act failed before after past now = ⊥

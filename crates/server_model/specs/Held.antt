@@ -2,10 +2,18 @@
 use Rattle.std.specs.Prelude.{◌≡◌, ℕ, ◌<◌, length, List, [], ◌∷◌, get_or, Bool, Option, Some, None, ◌==◌, if◌then◌else◌}
 use Rattle.lt_world.specs.declared.net.Address.{Address}
 use Rattle.chunkqueue.specs.Items.{Item}
+use Rattle.lt_http_body.specs.declared.standing.Standing.{Standing}
+use Rattle.server_model.specs.Request.{Head, Request}
 
 pub data Stage : Type 0 where
-  -- request k isn't answered yet
+  -- request k isn't there yet
   Awaiting : ℕ → Stage
+  -- the head of request k was read, and the limit of its body is asked for
+  Heading : ℕ → Head → Stage
+  -- the body of request k is read: where it stands, and its data so far
+  Taking : ℕ → Head → Standing → List ℕ → Stage
+  -- request k is there, complete or refused, and isn't answered yet
+  Asking : ℕ → Request → Stage
   -- reply k was given, and is the last or not
   Answering : ℕ → Bool → Stage
 
@@ -14,7 +22,7 @@ pub record Held : Type 0 where
   pub link : ℕ
   pub peer : Address
   pub local : Address
-  -- what came, and belongs to no request that was answered
+  -- what came, and isn't taken up yet
   pub input : List ℕ
   pub stage : Stage
   -- what is owed of the current reply

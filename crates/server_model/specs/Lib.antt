@@ -10,6 +10,8 @@ pub mod Files
 pub mod Planning
 pub mod Serves
 pub mod Due
+pub mod Open
 pub mod Turns
 pub mod Settling
 pub mod Runs
+pub mod Causes

@@ -1,9 +1,10 @@
 -- What is planned for a request, by what stands at its path and by the calls on files.
-use Rattle.std.specs.Prelude.{ℕ, List, ◌∷◌, ◌++◌, Bool, true, false}
+use Rattle.std.specs.Prelude.{ℕ, List, ◌∷◌, ◌++◌, Bool, true, false, ◌||◌, bytes_eq, codes}
 use Rattle.lt_world.specs.declared.files.Call.{Call}
 use Rattle.lt_world.specs.declared.files.FileCall.{FileCall}
 use Rattle.lt_world.specs.declared.files.FileCall.TheVariants as call
 use Rattle.lt_world.specs.declared.net.Owner.{Owner}
+use Rattle.server_model.specs.Request.{Head}
 use Rattle.lt_world.specs.Disk.{Node, Missing, Directory, File, Tree, Disk, own_calls, count, log_of, is_logged}
 
 -- what the replies to a client depend on beside its own deeds
@@ -39,14 +40,22 @@ pub data Outcome : Type 0 where
   -- the bytes of a file
   Content : List ℕ → Outcome
 
--- by whether the find and the open failed
-abbrev pub outcome : Bool → Bool → Node → Outcome
-outcome true open_failed node = Error 500
-outcome false open_failed Missing = Error 404
-outcome false open_failed Directory = Error 404
-outcome false true (File bytes time) = Error 500
-outcome false false (File bytes time) = Content bytes
+-- the methods that a file answers (RFC 9110, sections 9.3.1 and 9.3.2)
+abbrev pub is_head : List ℕ → Bool
+is_head method = bytes_eq method (codes "HEAD")
 
--- the plan of request k: a find, and an open where a file stands there
-abbrev pub plan : World → ℕ → List ℕ → Outcome
-plan world k path = outcome (has_failed_call world k call.Find) (has_failed_call world k call.Open) (world.tree (world.root ++ path))
+abbrev pub is_served : List ℕ → Bool
+is_served method = bytes_eq method (codes "GET") || is_head method
+
+-- by whether the find and the open failed, and whether a file answers the method
+abbrev pub outcome : Bool → Bool → Bool → Node → Outcome
+outcome true open_failed served node = Error 500
+outcome false open_failed served Missing = Error 404
+outcome false open_failed served Directory = Error 404
+outcome false open_failed false (File bytes time) = Error 405
+outcome false true true (File bytes time) = Error 500
+outcome false false true (File bytes time) = Content bytes
+
+-- the plan of request k: a find at the root and the path, and an open where a file stands there
+abbrev pub plan : World → ℕ → Head → Outcome
+plan world k head = outcome (has_failed_call world k call.Find) (has_failed_call world k call.Open) (is_served head.method) (world.tree (world.root ++ head.target.path))

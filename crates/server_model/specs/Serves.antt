@@ -1,16 +1,21 @@
 -- How what a server keeps stands for a trace and for what the files tell.
-use Rattle.std.specs.Prelude.{◌≡◌, ℕ, ◌+◌, ◌≤◌, List, [], ◌++◌, Bool, true, false, Option, Some, None}
+use Rattle.std.specs.Prelude.{◌≡◌, ℕ, ◌+◌, ◌≤◌, List, [], ◌++◌, length, Bool, true, false, Option, Some, None}
 use Rattle.lt_world.specs.declared.files.FileCall.{FileCall}
 use Rattle.lt_world.specs.Disk.{Table, Disk}
 use Rattle.lt_world.specs.Trace.{Act, Entry}
-use Rattle.server_model.specs.Request.{Unfinished, request_of}
+use Rattle.server_model.specs.Request.{Head, Request, Unfinished, Refused, Open, Declined, Complete, HasHead, front_of, request_of, is_complete, begin_of}
+use Rattle.lt_http_body.specs.declared.standing.Standing.{Standing}
+use Rattle.lt_http_body.specs.Standings.{is_over}
+use Rattle.lt_http_body.specs.Reading.{standing_after, data_in, taken_in}
 use Rattle.server_model.specs.Plan.{World, world_of, call_count}
-use Rattle.server_model.specs.Reply.{Whole}
+use Rattle.server_model.specs.Reply.{Whole, continue_of}
 use Rattle.server_model.specs.Stream.{Passed, reply_at, left_after, replies_to}
 use Rattle.server_model.specs.Deeds.{Deed, own, ours}
 use Rattle.server_model.specs.Client.{input_of, output_of, has_ended, has_failed, is_open, CameFrom, AskedInTurn, IsFinished, IsServedRight}
-use Rattle.chunkqueue.specs.Items.{bytes_of, Shows}
-use Rattle.server_model.specs.Held.{Stage, Awaiting, Answering, Held, Serving, kept_at}
+use Rattle.chunkqueue.specs.Items.{Item, bytes_of, Shows}
+use Rattle.server_model.specs.Held.{Stage, Awaiting, Heading, Taking, Asking, Answering, Held, Serving, kept_at}
+use Rattle.server_model.specs.Steps.{has_no_items}
+use Rattle.server_model.specs.Open.{open_clients}
 use Rattle.server_model.specs.Files.{file_of}
 
 -- the replies before k were taken, and nothing is owed
@@ -19,6 +24,48 @@ pub record IsAwaiting (world : World) (held : Held) (acts : List Act) (k : ℕ) 
   pub input : held.input ≡ left_after k (input_of acts)
   pub owed : held.owed ≡ []
   pub staged : held.staged ≡ []
+  pub file : held.file ≡ None
+
+-- the replies before k were taken, and of these first bytes of reply k what isn't owed
+pub record IsBegun (opened : Table) (world : World) (held : Held) (acts : List Act) (k : ℕ) (bytes : List ℕ) : Type 0 where
+  pub before : List ℕ
+  pub taken : List ℕ
+  pub passed : Passed k (replies_to world (input_of acts)) before
+  pub output : output_of acts ≡ before ++ taken
+  pub owed : taken ++ bytes_of opened held.owed ≡ bytes
+  pub shows : Shows opened held.owed held.staged
+
+-- the replies before k were taken, and the head of request k was read
+pub record IsHeading (world : World) (held : Held) (acts : List Act) (k : ℕ) (head : Head) : Type 0 where
+  pub passed : Passed k (replies_to world (input_of acts)) (output_of acts)
+  pub front : front_of (left_after k (input_of acts)) ≡ HasHead head held.input
+  pub owed : held.owed ≡ []
+  pub staged : held.staged ≡ []
+  pub file : held.file ≡ None
+
+-- the head of request k was read, and of its body these first bytes
+pub record IsTaking (opened : Table) (world : World) (held : Held) (acts : List Act) (k : ℕ) (head : Head) (s : Standing) (content : List ℕ) : Type 0 where
+  pub begun : IsBegun opened world held acts k (continue_of head)
+  pub read : List ℕ
+  pub front : front_of (left_after k (input_of acts)) ≡ HasHead head (read ++ held.input)
+  pub stands : s ≡ standing_after (begin_of head) read
+  pub content_is : content ≡ data_in (begin_of head) read
+  pub own : taken_in (begin_of head) read ≡ length read
+  pub file : held.file ≡ None
+
+-- what a client is told before the reply to a request
+abbrev pub told_first : Request → List ℕ
+told_first Unfinished = []
+told_first (Refused status) = []
+told_first (Open head) = continue_of head
+told_first (Declined status head) = continue_of head
+told_first (Complete head content) = continue_of head
+
+-- request k is there
+pub record IsAsking (opened : Table) (world : World) (held : Held) (acts : List Act) (k : ℕ) (r : Request) : Type 0 where
+  pub begun : IsBegun opened world held acts k (told_first r)
+  pub request : request_of (left_after k (input_of acts)) ≡ r
+  pub input : is_complete r ≡ true → held.input ≡ left_after (k + 1) (input_of acts)
   pub file : held.file ≡ None
 
 -- the replies before k were taken, and of reply k what isn't owed
@@ -31,15 +78,21 @@ pub record IsAnswering (opened : Table) (world : World) (held : Held) (acts : Li
   pub shows : Shows opened held.owed held.staged
   pub whole : (reply_at k (replies_to world (input_of acts))).extent ≡ Whole
   pub last_is : (reply_at k (replies_to world (input_of acts))).last ≡ last
-  pub input : held.input ≡ left_after (k + 1) (input_of acts)
+  pub input : last ≡ false → held.input ≡ left_after (k + 1) (input_of acts)
 
 abbrev pub IsAt : Table → World → Held → List Act → Stage → Type 0
 IsAt opened world held acts (Awaiting k) = IsAwaiting world held acts k
+IsAt opened world held acts (Heading k head) = IsHeading world held acts k head
+IsAt opened world held acts (Taking k head s content) = IsTaking opened world held acts k head s content
+IsAt opened world held acts (Asking k r) = IsAsking opened world held acts k r
 IsAt opened world held acts (Answering k last) = IsAnswering opened world held acts k last
 
 -- the first request for which no call on files was made
 abbrev pub first_unasked : Stage → ℕ
 first_unasked (Awaiting k) = k
+first_unasked (Heading k head) = k
+first_unasked (Taking k head s content) = k
+first_unasked (Asking k r) = k
 first_unasked (Answering k last) = k + 1
 
 -- what is kept is what the client's acts and its world determine
@@ -52,15 +105,21 @@ pub record Matches (opened : Table) (world : World) (held : Held) (acts : List A
   pub in_turn : AskedInTurn world acts
   pub unasked : (k : ℕ) (what : FileCall) → first_unasked held.stage ≤ k → call_count world k what ≡ 0
 
--- no request is to be answered
-abbrev pub IsWaiting : Stage → List ℕ → Type 0
-IsWaiting (Awaiting k) input = request_of input ≡ Unfinished
-IsWaiting (Answering k last) input = Unit {0}
+-- no request is to be answered, all that came of a body was taken up, and of a reply that was given something is owed
+abbrev pub IsWaitingAt : Stage → List ℕ → List Item → Type 0
+IsWaitingAt (Awaiting k) input owed = request_of input ≡ Unfinished
+IsWaitingAt (Heading k head) input owed = ⊥
+IsWaitingAt (Taking k head s content) input owed = (input ≡ []) × (is_over s.state ≡ false)
+IsWaitingAt (Asking k r) input owed = ⊥
+IsWaitingAt (Answering k last) input owed = has_no_items owed ≡ false
+
+abbrev pub IsWaiting : Held → Type 0
+IsWaiting held = IsWaitingAt held.stage held.input held.owed
 
 -- and nothing is left to do
 pub record Stands (opened : Table) (world : World) (held : Held) (acts : List Act) : Type 0 where
   pub matches : Matches opened world held acts
-  pub waiting : IsWaiting held.stage held.input
+  pub waiting : IsWaiting held
   pub unfinished : IsFinished world acts → ⊥
 
 -- it isn't open, and what it got was right
@@ -73,7 +132,8 @@ abbrev pub StandsFor : Table → World → Option Held → List Deed → Type 0
 StandsFor opened world None deeds = IsGone world deeds
 StandsFor opened world (Some held) deeds = Stands opened world held (ours deeds)
 
--- for each link the table stands for what was done for it, and just the files that clients keep are open
+-- for each link the table stands for what was done for it, as many clients are kept as are open, and just the files that clients keep are open
 pub record Serves (disk : Disk) (server : Serving) (trace : List Entry) : Type 0 where
   pub each : (link : ℕ) → StandsFor disk.table (world_of server.root disk link) (kept_at link server.table) (own link trace)
+  pub count : open_clients trace ≡ length server.table
   pub opened : (file : ℕ) (bytes : List ℕ) → disk.table file ≡ Some bytes → (link : ℕ) × (file_of (kept_at link server.table) ≡ Some file)

@@ -1,6 +1,6 @@
 -- All that a client is to get, and how far it got: plain functions of its replies and of how many bytes it took.
 use Rattle.std.specs.Prelude.{◌≡◌, ℕ, zero, suc, ◌+◌, ◌-◌, nat_le, List, [], ◌∷◌, ◌++◌, length, drop, Bool, true, false, not, ◌&&◌, if◌then◌else◌}
-use Rattle.server_model.specs.Request.{requests, request_of, rest_of}
+use Rattle.server_model.specs.Request.{requests, rest_of}
 use Rattle.server_model.specs.Plan.{World}
 use Rattle.server_model.specs.Reply.{Extent, Growing, Whole, Reply, no_reply, replies}
 
@@ -56,7 +56,7 @@ reply_at (suc k) (r ∷ rs) = reply_at k rs
 -- the bytes after k requests
 abbrev pub left_after : ℕ → List ℕ → List ℕ
 left_after zero bytes = bytes
-left_after (suc k) bytes = left_after k (rest_of (request_of bytes) bytes)
+left_after (suc k) bytes = left_after k (rest_of bytes)
 
 -- the replies to all that came
 abbrev pub replies_to : World → List ℕ → List Reply

@@ -1,5 +1,5 @@
 -- One turn: an event, and what is done for each client that it concerns.
-use Rattle.std.specs.Prelude.{◌≡◌, ◌≤◌, ℕ, List, [], ◌∷◌, ◌++◌, false, Option, Some, None}
+use Rattle.std.specs.Prelude.{◌≡◌, ◌≤◌, ℕ, ◌-◌, List, [], ◌∷◌, ◌++◌, false, Option, Some, None}
 use Rattle.lt_world.specs.declared.files.Call.{Call}
 use Rattle.lt_world.specs.declared.net.Ending.{Ending}
 use Rattle.lt_world.specs.declared.net.Ending.TheVariants as ending
@@ -9,6 +9,7 @@ use Rattle.lt_world.specs.Disk.{Disk, Table}
 use Rattle.lt_world.specs.Trace.{Act, Entry, Accepted, Close, names}
 use Rattle.server_model.specs.Plan.{World, world_of}
 use Rattle.server_model.specs.Deeds.{Deed, Ours, own, ours, told, AreDeeds}
+use Rattle.server_model.specs.Open.{open_clients}
 use Rattle.server_model.specs.Client.{IsFinished, IsRight}
 use Rattle.server_model.specs.Held.{Held, Serving}
 use Rattle.server_model.specs.Files.{file_of, FitsFor, FileStep}
@@ -42,7 +43,7 @@ all_told (p ∷ parts) trace = told p.client p.deeds (all_told parts trace)
 
 -- what is due for the client of a link
 abbrev pub DueFor : List ℕ → Act → ℕ → Seen → Seen → List Entry → List Entry → Type 0
-DueFor root event client before after old now = Due event (λ k. ReadFailed client k before after) (world_of root before.disk client) (world_of root after.disk client) (own client old) (own client now)
+DueFor root event client before after old now = Due (open_clients old) event (λ k. ReadFailed client k before after) (world_of root before.disk client) (world_of root after.disk client) (own client old) (own client now)
 
 -- an event of a link concerns its client alone
 abbrev pub DueParts : List ℕ → Act → ℕ → List Part → Seen → Seen → List Entry → List Entry → Type 0
@@ -65,11 +66,17 @@ pub record IsTurn (root : List ℕ) (before after : Seen) (old now : List Entry)
   pub due : DueParts root event link parts before after old now
   pub grows : Grows before after
 
+-- how many clients are open, where so many were with this one, and this is kept of it now
+abbrev pub open_with : Option Held → ℕ → ℕ
+open_with None n = n - 1
+open_with (Some held) n = n
+
 -- one client that is kept, in a state that `From` names, goes on by some deeds, as is due, whatever its past
 pub record StepsBy (From : Table → World → Held → List Act → Type 0) (due : World → World → List Deed → List Deed → Type 0) (root : List ℕ) (held : Held) (next : Option Held) (net files : Type 0) (before after : Disk) (old now : List Entry) : Type 0 where
   pub deeds : List Deed
   pub are : AreDeeds deeds
   pub gains : net → now ≡ told held.link deeds old
+  pub count : (trace : List Entry) → open_clients (told held.link deeds trace) ≡ open_with next (open_clients trace)
   pub does : files → FileStep held.link held.file (file_of next) before after
   pub fits : files → FitsFor after.table next
   pub keeps : files → (past : List Deed) → From before.table (world_of root before held.link) held (ours past)
@@ -80,6 +87,7 @@ pub record StopsBy (From : Table → World → Held → List Act → Type 0) (du
   pub deeds : List Deed
   pub are : AreDeeds deeds
   pub gains : net → now ≡ told held.link deeds old
+  pub count : (trace : List Entry) → open_clients (told held.link deeds trace) ≡ open_clients trace
   pub link : now_held.link ≡ held.link
   pub does : files → FileStep held.link held.file now_held.file before after
   pub keeps : files → (past : List Deed) → From before.table (world_of root before held.link) held (ours past)

@@ -1,20 +1,26 @@
 //! The laws on the definitions: each function does nothing, and its clauses are theorems.
-ghost use Rattle.std.specs.Prelude.{◌≡◌, ◌≢◌, ◌⊎◌, ℕ, ◌+◌, ◌-◌, ◌<◌, ◌≤◌, take, drop, List, [], ◌∷◌, ◌++◌, Bool, true, Some, None};
+ghost use Rattle.std.specs.Prelude.{◌≡◌, ◌≢◌, ◌⊎◌, ℕ, ◌+◌, ◌<◌, ◌≤◌, ◌||◌, nat_le, List, [], ◌∷◌, ◌++◌, length, take, drop, codes, Bool, true, false, Some, None};
 ghost use Rattle.lt_world.specs.declared.files.FileCall.{FileCall};
+ghost use Rattle.lt_world.specs.declared.net.Ending.{Ending};
 ghost use Rattle.lt_world.specs.declared.net.Ending.TheVariants as ending;
 ghost use Rattle.lt_world.specs.Causes.{Rose};
 ghost use Rattle.lt_world.specs.Disk.{Disk};
 ghost use Rattle.lt_world.specs.Trace.{Act, Entry, own as link_acts};
-ghost use Rattle.server_model.specs.Request.{Request, Complete, Refused, request_of, head_end, empty_line, method, version, is_path, target_of};
+ghost use Rattle.http_head.specs.declared.framing.Framing.TheVariants as framed;
+ghost use Rattle.http_head.specs.Options.{closes};
+ghost use Rattle.server_model.specs.Request.{Head, Request, Complete, Open, Declined, Refused, HasHead, front_of, headed, request_of, rest_of, is_complete, body_limit};
 ghost use Rattle.server_model.specs.Plan.{World, world_of, with_call};
-ghost use Rattle.server_model.specs.Reply.{reply};
-ghost use Rattle.server_model.specs.Stream.{IsPrefix, Passed, replies_to, stream_of};
+ghost use Rattle.server_model.specs.Reply.{Reply, reply, request_limit, is_accepted, continue_of};
+ghost use Rattle.server_model.specs.Stream.{IsPrefix, is_followed, joined, Passed, left_after, replies_to, stream_of};
 ghost use Rattle.server_model.specs.Deeds.{Deed, own, ours, told, deeds_in, AreDeeds};
-ghost use Rattle.server_model.specs.Client.{input_of, ending_of, stream, IsServedRight};
+ghost use Rattle.server_model.specs.Client.{ending_of, stream, IsServedRight};
+ghost use Rattle.server_model.specs.Open.{open_clients};
+ghost use Rattle.server_model.specs.Due.{connection_limit};
 ghost use Rattle.server_model.specs.Held.{Serving};
 ghost use Rattle.server_model.specs.Serves.{Serves};
 ghost use Rattle.server_model.specs.Turns.{Grows};
 ghost use Rattle.server_model.specs.Runs.{Told, IsRun};
+ghost use Rattle.server_model.specs.Causes.{IsCause};
 
 /// A server with no client serves where nothing happened yet and no file is open.
 pub fn starts()
@@ -34,6 +40,10 @@ pub fn runs_grow()
     // A client is closed for a file's fault only where that count rose in the run.
     ensures faults { (root : List ℕ) (before after : Told) → IsRun root before after → (client : ℕ) → ending_of (ours (own client after.trace)) ≡ Some ending.FileFault
         → (ending_of (ours (own client before.trace)) ≡ Some ending.FileFault) ⊎ Rose before.seen.faults after.seen.faults }
+
+    // However a client is closed in the run, there is a cause for it.
+    ensures endings { (root : List ℕ) (before after : Told) → IsRun root before after → (client : ℕ) (e : Ending) → ending_of (ours (own client after.trace)) ≡ Some e
+        → (ending_of (ours (own client before.trace)) ≡ Some e) ⊎ IsCause e (ours (own client after.trace)) (Rose before.seen.faults after.seen.faults) }
 {}
 
 /// A client's meaning depends on the acts of its own link alone.
@@ -43,23 +53,86 @@ pub fn client_alone()
     ensures others { (other client : ℕ) (deeds : List Deed) (trace : List Entry) → other ≢ client → own other (told client deeds trace) ≡ own other trace }
 {}
 
-/// A head ends with its first empty line.
-pub fn head_end_is_first()
-    ensures ends { (bytes : List ℕ) (n : ℕ) → head_end bytes ≡ Some n → (4 ≤ n) × (take 4 (drop (n - 4) bytes) ≡ empty_line) }
-    ensures first { (bytes : List ℕ) (n m : ℕ) → head_end bytes ≡ Some n → m + 4 < n → take 4 (drop m bytes) ≢ empty_line }
-    ensures none { (bytes : List ℕ) (m : ℕ) → head_end bytes ≡ None → take 4 (drop m bytes) ≢ empty_line }
-{}
-
-/// The request lines that are read: a method, a plain path and a version, in one way at most.
-pub fn request_line()
-    ensures read { (path : List ℕ) → is_path path ≡ true → target_of (method ++ path ++ version) ≡ Some path }
-    ensures only { (line path : List ℕ) → target_of line ≡ Some path → (line ≡ method ++ path ++ version) × (is_path path ≡ true) }
-{}
-
-/// A request that is complete or refused stays so, whatever comes after it.
+/// A request that is there stays so, whatever comes after it.
 pub fn requests_stay()
-    ensures complete { (bytes more path rest : List ℕ) → request_of bytes ≡ Complete path rest → request_of (bytes ++ more) ≡ Complete path (rest ++ more) }
+    ensures complete { (bytes more : List ℕ) (head : Head) (content : List ℕ) → request_of bytes ≡ Complete head content → (request_of (bytes ++ more) ≡ Complete head content) × (rest_of (bytes ++ more) ≡ rest_of bytes ++ more) }
+    ensures declined { (bytes more : List ℕ) (status : ℕ) (head : Head) → request_of bytes ≡ Declined status head → request_of (bytes ++ more) ≡ Declined status head }
     ensures refused { (bytes more : List ℕ) (status : ℕ) → request_of bytes ≡ Refused status → request_of (bytes ++ more) ≡ Refused status }
+
+    // Where a body isn't whole, its head stays, and what comes is its body's.
+    ensures open { (bytes more : List ℕ) (head : Head) → request_of bytes ≡ Open head
+        → (rest : List ℕ) × (front_of bytes ≡ HasHead head rest) × (request_of (bytes ++ more) ≡ headed head (rest ++ more)) }
+{}
+
+/// Where the body of a request ends, and what it carries.
+pub fn bodies_end()
+    // Nothing follows a head without framing: what comes is the next request.
+    ensures none { (bytes rest : List ℕ) (head : Head) → front_of bytes ≡ HasHead head rest → head.framing ≡ framed.None
+        → (request_of bytes ≡ Complete head []) × (rest_of bytes ≡ rest) }
+
+    // A stated length within the limit is the body's.
+    ensures stated { (bytes rest : List ℕ) (head : Head) (n : ℕ) → front_of bytes ≡ HasHead head rest → head.framing ≡ framed.Length n → n ≤ body_limit → n ≤ length rest
+        → (request_of bytes ≡ Complete head (take n rest)) × (rest_of bytes ≡ drop n rest) }
+
+    // Until so many bytes came, the body isn't whole.
+    ensures short { (bytes rest : List ℕ) (head : Head) (n : ℕ) → front_of bytes ≡ HasHead head rest → head.framing ≡ framed.Length n → n ≤ body_limit → length rest < n
+        → request_of bytes ≡ Open head }
+
+    // A longer one is declined with its head.
+    ensures large { (bytes rest : List ℕ) (head : Head) (n : ℕ) → front_of bytes ≡ HasHead head rest → head.framing ≡ framed.Length n → body_limit < n
+        → request_of bytes ≡ Declined 413 head }
+
+    // However it is framed, a body carries no more than the limit.
+    ensures within { (bytes : List ℕ) (head : Head) (content : List ℕ) → request_of bytes ≡ Complete head content → length content ≤ body_limit }
+{}
+
+/// A client that waits to be told is told to go on, before the reply to its request.
+pub fn clients_continue()
+    // The reply to a request whose head was read begins so, and until its body is whole there is no more of it.
+    ensures first { (world : World) (k : ℕ) (bytes rest : List ℕ) (head : Head) → front_of bytes ≡ HasHead head rest → IsPrefix (continue_of head) (reply world k (request_of bytes)).bytes }
+    ensures waits { (world : World) (k : ℕ) (head : Head) → (reply world k (Open head)).bytes ≡ continue_of head }
+
+    // It is due where the client asks for it and a body follows that is accepted, and nowhere else.
+    ensures asked { (head : Head) → head.expect ≡ true → is_accepted head.framing body_limit ≡ true → continue_of head ≡ codes "HTTP/1.1 100 Continue" ++ 13 ∷ 10 ∷ 13 ∷ 10 ∷ [] }
+    ensures unasked { (head : Head) → head.expect ≡ false → continue_of head ≡ [] }
+    ensures bodiless { (head : Head) → head.framing ≡ framed.None → continue_of head ≡ [] }
+    ensures large { (head : Head) (n : ℕ) → head.framing ≡ framed.Length n → body_limit < n → continue_of head ≡ [] }
+
+    // What it was told stays, whatever comes.
+    ensures stays { (world : World) (k : ℕ) (bytes more : List ℕ) → IsPrefix (reply world k (request_of bytes)).bytes (reply world k (request_of (bytes ++ more))).bytes }
+{}
+
+/// Requests are answered one by one, in the order in which they came.
+pub fn replies_in_order()
+    // After k replies the stream goes on with the reply to request k.
+    ensures next { (world : World) (input before : List ℕ) (k : ℕ) → Passed k (replies_to world input) before
+        → (rest : List Reply) × (stream_of world input ≡ before ++ joined (reply world k (request_of (left_after k input)) ∷ rest)) }
+
+    // A reply that no further reply follows ends the stream.
+    ensures last { (world : World) (input before : List ℕ) (k : ℕ) → Passed k (replies_to world input) before → is_followed (reply world k (request_of (left_after k input))) ≡ false
+        → stream_of world input ≡ before ++ (reply world k (request_of (left_after k input))).bytes }
+
+    // Each of the k requests was whole.
+    ensures whole { (world : World) (input before : List ℕ) (k j : ℕ) → Passed k (replies_to world input) before → j < k → is_complete (request_of (left_after j input)) ≡ true }
+
+    // The first k replies are these bytes and no others.
+    ensures only { (world : World) (input a b : List ℕ) (k : ℕ) → Passed k (replies_to world input) a → Passed k (replies_to world input) b → a ≡ b }
+{}
+
+/// Which reply is the last of its connection.
+pub fn connections_end()
+    // The reply to a request is the last exactly where its head closes the connection, or it is the last request that the connection may send.
+    ensures asked { (world : World) (k : ℕ) (bytes : List ℕ) (head : Head) (content : List ℕ) → request_of bytes ≡ Complete head content → (reply world k (Complete head content)).last ≡ (closes head.minor head.fields || nat_le request_limit (k + 1)) }
+    ensures declined { (world : World) (k status : ℕ) (head : Head) → (reply world k (Declined status head)).last ≡ true }
+    ensures refused { (world : World) (k status : ℕ) → (reply world k (Refused status)).last ≡ true }
+
+    // A further reply never follows that to the last request.
+    ensures limit { (world : World) (input before : List ℕ) (k : ℕ) → Passed k (replies_to world input) before → k < request_limit }
+{}
+
+/// No more clients are open at once than the limit, in a run that began with no more.
+pub fn clients_limited()
+    ensures within { (root : List ℕ) (before after : Told) → IsRun root before after → open_clients before.trace ≤ connection_limit → open_clients after.trace ≤ connection_limit }
 {}
 
 /// What a client was to get begins what it is to get later.

@@ -2,12 +2,13 @@
 //! From the acts on a client's own link, the document root, the tree of files and the calls on files
 //! for that client follow its requests, its replies, its stream, what is owed and wanted, and what is
 //! due after each event. A server that keeps `Serves` served every client right.
-//! Stands on the traces of `lt_world` and on the spelling of `http_reply`.
+//! Stands on the traces of `lt_world`, the heads of `http_head`, the bodies of `lt_http_body` and the
+//! spelling of `http_reply`.
 #![tactic(auto)]
 
 mod laws;
 
 pub use laws::{
-    client_alone, head_end_is_first, request_line, requests_stay, served_right, starts,
-    stream_stays,
+    bodies_end, client_alone, clients_continue, clients_limited, connections_end, replies_in_order,
+    requests_stay, runs_grow, served_right, starts, stream_stays,
 };

@@ -33,7 +33,7 @@ impl Failing {
     }
 }
 
-const REQUEST: &[u8; 24] = b"GET /a.txt HTTP/1.1\r\n\r\n ";
+const REQUEST: &[u8; 32] = b"GET /a.txt HTTP/1.1\r\nHost: x\r\n\r\n";
 
 impl Net for Failing {
     ghost use Rattle.std.specs.Prelude.{[], min};
@@ -84,12 +84,12 @@ impl Net for Failing {
     }
 
     fn read(&mut self, _link: Link, buf: &mut [u8]) -> Got {
-        if !self.reads || buf.len() < 23 {
+        if !self.reads || buf.len() < 32 {
             self.faults = self.faults.saturating_add(1);
             return Got::Failed;
         }
-        buf[..23].copy_from_slice(&REQUEST[..23]);
-        Got::Bytes(23)
+        buf[..32].copy_from_slice(&REQUEST[..32]);
+        Got::Bytes(32)
     }
 
     fn write(&mut self, _link: Link, _bytes: &[u8]) -> Took {

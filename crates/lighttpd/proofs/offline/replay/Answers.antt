@@ -15,6 +15,13 @@ returns-in-Ok-new-clause-plays g c told said held done =
     let loaded : c.load.new.self ≡ unplayed c.in-Ok-read_script.script.steps = search rules in
     c.play.ensures.plays said.steps (loaded ∙ ap (λ (script : Script). unplayed script.steps) same) done
 
+pub returns-in-Ok-new-clause-calm : goal.returns-in-Ok-new-clause-calm
+returns-in-Ok-new-clause-calm g c told said held calm =
+    let kept : g.X.Texts.texts c.read_conf.new.texts c.args.script.now ≡ g.X.Texts.texts c.args.texts.now c.args.script.now = ap (λ (texts : List ℕ → Option (List ℕ)). texts c.args.script.now) (c.read_conf.ensures.texts told) in
+    let same : c.in-Ok-read_script.script ≡ said = c.in-Ok-read_script.ensures.only told said (held.0, kept ∙ held.1, held.2, held.3) in
+    let loaded : c.load.new.self ≡ unplayed c.in-Ok-read_script.script.steps = search rules in
+    c.play.ensures.calm said.steps (loaded ∙ ap (λ (script : Script). unplayed script.steps) same) calm
+
 pub returns-in-Ok-new-clause-texts : goal.returns-in-Ok-new-clause-texts
 returns-in-Ok-new-clause-texts g c told =
     let kept : g.X.Texts.texts c.read_conf.new.texts c.args.script.now ≡ g.X.Texts.texts c.args.texts.now c.args.script.now = ap (λ (texts : List ℕ → Option (List ℕ)). texts c.args.script.now) (c.read_conf.ensures.texts told) in

@@ -1,25 +1,29 @@
-use Rattle.std.proofs.Common.{◌∙◌, sym, subst, List, ℕ}
-use Rattle.lt_world.specs.Disk.{IsFileAt}
-use Rattle.server_core.proofs.Planning.{planned_failed, planned_missing, planned_directory, planned_file, found_file, opens_at}
+use Rattle.std.proofs.Common.{◌++◌, ◌∙◌, List, ℕ, ap, sym}
+use Rattle.server_core.proofs.Planning.{planned_failed, planned_missing, planned_directory, planned_not_allowed, planned_file, opens_at}
 use Rattle.server_core.proofs.plan.plan.Goals as goal
 
-pub open-requires : goal.open-requires
-open-requires g c told =
+pub returns-then-not-is_served-clause-plans : goal.returns-then-not-is_served-clause-plans
+returns-then-not-is_served-clause-plans g c told =
     let right = c.in-File.ensures.right told in
-    subst (λ (p : List ℕ). IsFileAt p (g.F.Files.disk c.find.new.self).tree) (c.bytes.ensures.value ∙ sym c.bytes-in-File.ensures.value)
-    (found_file c.args.root.now c.args.path.now c.bytes.result.now c.args.owner (g.F.Files.disk c.args.files.now) (g.F.Files.disk c.find.new.self) (c.bytes.ensures.value ∙ c.in-Ok.ensures) (c.in-File.ensures.disk told) right.0 _ right.1)
+    planned_not_allowed c.args.root.now c.args.request.now c.bytes-2.result.now c.args.owner (g.F.Files.disk c.args.files.now) (g.F.Files.disk c.find.new.self) (c.bytes-2.ensures.value ∙ c.in-Ok.ensures ∙ ap (λ (p : List ℕ). c.args.root.now ++ p) c.bytes.ensures.value) (c.in-File.ensures.disk told)
+    right.0 _ right.1 c.if-not-is_served.ensures
 
 pub returns-in-File-clause-plans : goal.returns-in-File-clause-plans
 returns-in-File-clause-plans g c told =
     let right = c.in-File.ensures.right told in
-    planned_file c.args.root.now c.args.path.now c.bytes.result.now c.args.owner (g.F.Files.disk c.args.files.now) (g.F.Files.disk c.find.new.self) (c.bytes.ensures.value ∙ c.in-Ok.ensures) (c.in-File.ensures.disk told) c.open.result (g.F.Files.disk c.open.new.files) right.0 _ right.1
-    (opens_at c.open.result c.args.owner c.bytes-in-File.result.now c.bytes.result.now (g.F.Files.disk c.find.new.self) (g.F.Files.disk c.open.new.files) (c.bytes-in-File.ensures.value ∙ sym c.bytes.ensures.value) (c.open.ensures.opens told))
+    planned_file c.args.root.now c.args.request.now c.bytes-2.result.now c.args.owner (g.F.Files.disk c.args.files.now) (g.F.Files.disk c.find.new.self) (c.bytes-2.ensures.value ∙ c.in-Ok.ensures ∙ ap (λ (p : List ℕ). c.args.root.now ++ p) c.bytes.ensures.value) (c.in-File.ensures.disk told)
+    c.open.result (g.F.Files.disk c.open.new.files) right.0 _ right.1 (sym c.if-not-is_served.ensures)
+    (opens_at c.open.result c.args.owner c.bytes-in-File.result.now c.bytes-2.result.now (g.F.Files.disk c.find.new.self) (g.F.Files.disk c.open.new.files) (c.bytes-in-File.ensures.value ∙ sym c.bytes-2.ensures.value) (c.open.ensures.opens told))
 
 pub returns-in-Directory-clause-plans : goal.returns-in-Directory-clause-plans
-returns-in-Directory-clause-plans g c told = planned_directory c.args.root.now c.args.path.now c.bytes.result.now c.args.owner (g.F.Files.disk c.args.files.now) (g.F.Files.disk c.find.new.self) (c.bytes.ensures.value ∙ c.in-Ok.ensures) (c.in-Directory.ensures.disk told) (c.in-Directory.ensures.right told)
+returns-in-Directory-clause-plans g c told =
+    planned_directory c.args.root.now c.args.request.now c.bytes-2.result.now c.args.owner (g.F.Files.disk c.args.files.now) (g.F.Files.disk c.find.new.self) (c.bytes-2.ensures.value ∙ c.in-Ok.ensures ∙ ap (λ (p : List ℕ). c.args.root.now ++ p) c.bytes.ensures.value)
+    (c.in-Directory.ensures.disk told) (c.in-Directory.ensures.right told)
 
 pub returns-in-Missing-clause-plans : goal.returns-in-Missing-clause-plans
-returns-in-Missing-clause-plans g c told = planned_missing c.args.root.now c.args.path.now c.bytes.result.now c.args.owner (g.F.Files.disk c.args.files.now) (g.F.Files.disk c.find.new.self) (c.bytes.ensures.value ∙ c.in-Ok.ensures) (c.in-Missing.ensures.disk told) (c.in-Missing.ensures.right told)
+returns-in-Missing-clause-plans g c told =
+    planned_missing c.args.root.now c.args.request.now c.bytes-2.result.now c.args.owner (g.F.Files.disk c.args.files.now) (g.F.Files.disk c.find.new.self) (c.bytes-2.ensures.value ∙ c.in-Ok.ensures ∙ ap (λ (p : List ℕ). c.args.root.now ++ p) c.bytes.ensures.value)
+    (c.in-Missing.ensures.disk told) (c.in-Missing.ensures.right told)
 
 pub returns-in-Failed-clause-plans : goal.returns-in-Failed-clause-plans
-returns-in-Failed-clause-plans g c told = planned_failed c.args.root.now c.args.path.now c.args.owner (g.F.Files.disk c.args.files.now) (g.F.Files.disk c.find.new.self) (c.in-Failed.ensures.disk told)
+returns-in-Failed-clause-plans g c told = planned_failed c.args.root.now c.args.request.now c.args.owner (g.F.Files.disk c.args.files.now) (g.F.Files.disk c.find.new.self) (c.in-Failed.ensures.disk told)

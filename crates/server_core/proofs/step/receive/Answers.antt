@@ -1,49 +1,46 @@
-use Rattle.std.proofs.Common.{◌+◌, ◌-◌, ℕ, List, length, take, true, Some, refl, sym, ap, ◌∙◌, subst}
-use Rattle.lt_world.specs.declared.net.Ending.TheVariants as ending
+use Rattle.std.proofs.Common.{take, sym, ap, ◌∙◌, subst}
 use Rattle.lt_world.specs.Trace.{Read, ReadEnd, NotYet, Failed, Reading}
-use Rattle.server_model.specs.Request.{head_end}
 use Rattle.server_model.specs.Held.{Held}
-use Rattle.server_model.specs.Steps.{received_end}
-use Rattle.server_model.specs.Settling.{SettlesTo}
+use Rattle.server_model.specs.Files.{Fits}
+use Rattle.server_model.specs.Steps.{received, received_end}
 use Rattle.server_model.proofs.ReadSteps.{read_yields, read_then, read_end_then, read_not_yet, read_failed}
-use Rattle.server_core.specs.Connection.{Connected}
-use Rattle.server_core.proofs.Settling.{reads_at, rest_fits, settles_end}
-use Rattle.server_core.proofs.Stepped.{tells_at, waiting_asks, unread_after}
+use Rattle.server_core.specs.Steps.{is_idle, IsFree}
+use Rattle.server_core.proofs.Stepped.{tells_at, rests_idle, settles_read}
 use Rattle.server_core.proofs.step.receive.Goals as goal
 
 pub returns-in_default-clause-goes : goal.returns-in_default-clause-goes
 returns-in_default-clause-goes g c =
     read_yields c.args.site.now.root c.args.conn.now.held g.N.Net.tells g.F.Files.tells (g.F.Files.disk c.args.files.now) (g.N.Net.trace c.args.net.now) (g.N.Net.trace c.read.new.self) c.requires.wants c.got.new.self.held (take c.in-Bytes.n c.read.new.buf)
-    (λ t. tells_at c.link.result.0 c.args.conn.now.held.link (Read (take c.in-Bytes.n c.read.new.buf)) (g.N.Net.trace c.args.net.now) (g.N.Net.trace c.read.new.self) c.link.ensures (c.in-Bytes.ensures.trace t))
-    (ap (λ (k : Connected). k.held.link) c.in_default.ensures.err) (ap (λ (k : Connected). k.held.file) c.in_default.ensures.err)
+    (λ t. tells_at c.link.result.0 c.args.conn.now.held.link (Read (take c.in-Bytes.n c.read.new.buf)) (g.N.Net.trace c.args.net.now) (g.N.Net.trace c.read.new.self) c.link.ensures.link (c.in-Bytes.ensures.trace t))
+    (ap (λ (h : Held). h.link) c.in_default.ensures.err) (ap (λ (h : Held). h.file) c.in_default.ensures.err)
 
-pub respond-requires-clause-unread : goal.respond-requires-clause-unread
-respond-requires-clause-unread g c =
-    ap (λ (h : Held). head_end (take (c.saturating_sub-from.result + 3) h.input)) c.in-Ok.ensures.ok
-    ∙ unread_after c.args.conn.now.held.input (take c.in-Bytes.n c.read.new.buf) c.saturating_sub-from.result
-    (waiting_asks c.args.conn.now.held.stage c.args.conn.now.held.input (reads_at c.args.conn.now.held c.requires.wants) c.requires.waiting)
-    (c.saturating_sub-from.ensures ∙ ap (λ (l : List ℕ). length l - 3) c.input.ensures)
+pub settle-requires-clause-idle : goal.settle-requires-clause-idle
+settle-requires-clause-idle g c = ap (λ (h : Held). is_idle h.stage) c.in-Ok.ensures.ok ∙ rests_idle c.args.conn.now.held c.requires.resting
+
+pub settle-requires-clause-free : goal.settle-requires-clause-free
+settle-requires-clause-free g c = subst IsFree (sym c.in-Ok.ensures.ok) c.requires.resting.1
+
+pub settle-requires-clause-fits : goal.settle-requires-clause-fits
+settle-requires-clause-fits g c f = let fits = c.requires.fits f in subst (Fits (g.F.Files.disk c.args.files.now).table) (sym c.in-Ok.ensures.ok) (record { is_open = fits.is_open; owed = fits.owed })
 
 pub returns-in-Ok-clause-goes : goal.returns-in-Ok-clause-goes
 returns-in-Ok-clause-goes g c =
-    read_then c.args.site.now.root c.args.conn.now.held g.N.Net.tells g.F.Files.tells (g.F.Files.disk c.args.files.now) (g.N.Net.trace c.args.net.now) (g.N.Net.trace c.read.new.self) c.requires.wants (g.F.Files.disk c.respond.new.files) c.respond.new.conn.held c.respond.result (take c.in-Bytes.n c.read.new.buf)
-    (λ t. tells_at c.link.result.0 c.args.conn.now.held.link (Read (take c.in-Bytes.n c.read.new.buf)) (g.N.Net.trace c.args.net.now) (g.N.Net.trace c.read.new.self) c.link.ensures (c.in-Bytes.ensures.trace t))
-    (subst (λ (h : Held). SettlesTo true c.args.site.now.root h c.respond.new.conn.held c.respond.result g.F.Files.tells (g.F.Files.disk c.args.files.now) (g.F.Files.disk c.respond.new.files)) c.in-Ok.ensures.ok c.respond.ensures.settles)
+    read_then c.args.site.now.root c.args.conn.now.held g.N.Net.tells g.F.Files.tells (g.F.Files.disk c.args.files.now) (g.N.Net.trace c.args.net.now) (g.N.Net.trace c.read.new.self) c.requires.wants (g.F.Files.disk c.settle.new.files) c.settle.new.conn.held c.settle.result (take c.in-Bytes.n c.read.new.buf)
+    (λ t. tells_at c.link.result.0 c.args.conn.now.held.link (Read (take c.in-Bytes.n c.read.new.buf)) (g.N.Net.trace c.args.net.now) (g.N.Net.trace c.read.new.self) c.link.ensures.link (c.in-Bytes.ensures.trace t))
+    (settles_read c.args.site.now.root c.got.new.self.held (received c.args.conn.now.held (take c.in-Bytes.n c.read.new.buf)) c.settle.new.conn.held g.F.Files.tells (g.F.Files.disk c.args.files.now) (g.F.Files.disk c.settle.new.files) c.settle.result c.in-Ok.ensures.ok c.settle.ensures.settles)
 
 pub returns-in-End-clause-goes : goal.returns-in-End-clause-goes
 returns-in-End-clause-goes g c =
-    read_end_then c.args.site.now.root c.args.conn.now.held g.N.Net.tells g.F.Files.tells (g.F.Files.disk c.args.files.now) (g.N.Net.trace c.args.net.now) (g.N.Net.trace c.read.new.self) c.requires.wants (g.F.Files.disk c.args.files.now) c.end.new.self.held (Some ending.Clean)
-    (λ t. tells_at c.link.result.0 c.args.conn.now.held.link ReadEnd (g.N.Net.trace c.args.net.now) (g.N.Net.trace c.read.new.self) c.link.ensures (c.in-End.ensures.trace t))
-    (subst (λ (h : Held). SettlesTo true c.args.site.now.root (received_end c.args.conn.now.held) h (Some ending.Clean) g.F.Files.tells (g.F.Files.disk c.args.files.now) (g.F.Files.disk c.args.files.now)) (sym c.end.ensures.held)
-    (settles_end c.args.site.now.root (received_end c.args.conn.now.held) g.F.Files.tells (g.F.Files.disk c.args.files.now) c.requires.waiting (reads_at c.args.conn.now.held c.requires.wants) refl c.requires.owed))
+    read_end_then c.args.site.now.root c.args.conn.now.held g.N.Net.tells g.F.Files.tells (g.F.Files.disk c.args.files.now) (g.N.Net.trace c.args.net.now) (g.N.Net.trace c.read.new.self) c.requires.wants (g.F.Files.disk c.settle-in-End.new.files) c.settle-in-End.new.conn.held c.settle-in-End.result
+    (λ t. tells_at c.link.result.0 c.args.conn.now.held.link ReadEnd (g.N.Net.trace c.args.net.now) (g.N.Net.trace c.read.new.self) c.link.ensures.link (c.in-End.ensures.trace t))
+    (settles_read c.args.site.now.root c.ended.new.self.held (received_end c.args.conn.now.held) c.settle-in-End.new.conn.held g.F.Files.tells (g.F.Files.disk c.args.files.now) (g.F.Files.disk c.settle-in-End.new.files) c.settle-in-End.result c.ended.ensures.held c.settle-in-End.ensures.settles)
 
 pub returns-in-NotYet-clause-goes : goal.returns-in-NotYet-clause-goes
 returns-in-NotYet-clause-goes g c =
     read_not_yet c.args.site.now.root c.args.conn.now.held g.N.Net.tells g.F.Files.tells (g.F.Files.disk c.args.files.now) (g.N.Net.trace c.args.net.now) (g.N.Net.trace c.read.new.self) c.requires.wants
-    (λ t. tells_at c.link.result.0 c.args.conn.now.held.link (NotYet Reading) (g.N.Net.trace c.args.net.now) (g.N.Net.trace c.read.new.self) c.link.ensures (c.in-NotYet.ensures.trace t))
-    (λ f. rest_fits (g.F.Files.disk c.args.files.now).table c.args.conn.now.held c.requires.file c.requires.owed)
+    (λ t. tells_at c.link.result.0 c.args.conn.now.held.link (NotYet Reading) (g.N.Net.trace c.args.net.now) (g.N.Net.trace c.read.new.self) c.link.ensures.link (c.in-NotYet.ensures.trace t)) c.requires.fits
 
 pub returns-in-Failed-clause-goes : goal.returns-in-Failed-clause-goes
 returns-in-Failed-clause-goes g c =
     read_failed c.args.site.now.root c.args.conn.now.held g.N.Net.tells g.F.Files.tells (g.F.Files.disk c.args.files.now) (g.N.Net.trace c.args.net.now) (g.N.Net.trace c.read.new.self) c.requires.wants
-    (λ t. tells_at c.link.result.0 c.args.conn.now.held.link (Failed Reading) (g.N.Net.trace c.args.net.now) (g.N.Net.trace c.read.new.self) c.link.ensures (c.in-Failed.ensures.trace t))
+    (λ t. tells_at c.link.result.0 c.args.conn.now.held.link (Failed Reading) (g.N.Net.trace c.args.net.now) (g.N.Net.trace c.read.new.self) c.link.ensures.link (c.in-Failed.ensures.trace t))

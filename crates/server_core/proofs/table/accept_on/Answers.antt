@@ -1,20 +1,25 @@
-use Rattle.std.proofs.Common.{◌++◌, ◌∷◌, [], ◌∙◌, ap, Some, arith}
+use Rattle.std.proofs.Common.{refl, ◌++◌, ◌∷◌, [], ◌∙◌, ap, Some, arith}
 use Rattle.server_model.specs.Steps.{arrived}
 use Rattle.server_model.proofs.Changing.{table_on}
-use Rattle.server_model.proofs.Arrivals.{turn_came, turn_refused, came_backs, came_changes}
+use Rattle.server_model.proofs.Arrivals.{turn_came, turn_refused, turn_full, came_backs, came_changes}
 use Rattle.server_core.specs.Steps.{seen_as}
 use Rattle.server_core.specs.Table.{helds}
-use Rattle.server_core.proofs.Listed.{helds_append}
+use Rattle.server_core.proofs.Listed.{helds_append, held_length}
 use Rattle.server_core.proofs.Tabled.{push_kept}
 use Rattle.server_core.proofs.table.accept_on.Goals as goal
 
+pub returns-then-len-ge-CONNECTION_LIMIT-clause-turn : goal.returns-then-len-ge-CONNECTION_LIMIT-clause-turn
+returns-then-len-ge-CONNECTION_LIMIT-clause-turn g c = turn_full c.args.link.0 c.args.peer c.args.local c.args.site.now.root (helds c.args.conns.now.items) (helds c.args.conns.now.items) g.N.Net.tells g.F.Files.tells (seen_as (g.F.Files.disk c.args.files.now) (g.F.Files.faults c.args.files.now) (g.F.Files.failed_read c.args.files.now)) (g.N.Net.trace c.args.net.now) (g.N.Net.trace c.close.new.self) (c.requires.table.below c.args.link.0 (omega arith))
+    (omega (arith, held_length c.args.conns.now.items, c.len.ensures, c.if-len-ge-CONNECTION_LIMIT.true)) refl c.close.ensures.trace c.requires.backs
+
 pub returns-in_default-clause-turn : goal.returns-in_default-clause-turn
-returns-in_default-clause-turn g c root = turn_refused c.args.link.0 c.args.peer c.args.local root (helds c.args.conns.now.items) (helds c.reserve.new.self.items) g.N.Net.tells g.F.Files.tells (seen_as (g.F.Files.disk c.args.files.now) (g.F.Files.faults c.args.files.now) (g.F.Files.failed_read c.args.files.now)) (g.N.Net.trace c.args.net.now) (g.N.Net.trace c.close.new.self) (c.requires.table.below c.args.link.0 (omega arith))
-    (ap helds c.reserve.ensures.items) c.close.ensures.trace c.requires.backs
+returns-in_default-clause-turn g c = turn_refused c.args.link.0 c.args.peer c.args.local c.args.site.now.root (helds c.args.conns.now.items) (helds c.reserve.new.self.items) g.N.Net.tells g.F.Files.tells (seen_as (g.F.Files.disk c.args.files.now) (g.F.Files.faults c.args.files.now) (g.F.Files.failed_read c.args.files.now)) (g.N.Net.trace c.args.net.now) (g.N.Net.trace c.close-in_default.new.self) (c.requires.table.below c.args.link.0 (omega arith))
+    (omega (arith, held_length c.args.conns.now.items, c.len.ensures, c.if-len-ge-CONNECTION_LIMIT.false)) (ap helds c.reserve.ensures.items) c.close-in_default.ensures.trace c.requires.backs
 
 pub returns-clause-turn : goal.returns-clause-turn
-returns-clause-turn g c root = turn_came c.args.link.0 c.args.peer c.args.local root (helds c.args.conns.now.items) (helds c.push_reserved.new.self.items) g.N.Net.tells g.F.Files.tells (seen_as (g.F.Files.disk c.args.files.now) (g.F.Files.faults c.args.files.now) (g.F.Files.failed_read c.args.files.now)) (g.N.Net.trace c.args.net.now) (g.N.Net.trace c.args.net.now) (c.requires.table.below c.args.link.0 (omega arith))
-    c.new.result.held c.new.ensures.held (ap helds (c.push_reserved.ensures.items ∙ ap (λ l. l ++ c.new.result ∷ []) c.reserve.ensures.items) ∙ helds_append c.args.conns.now.items (c.new.result ∷ [])) c.requires.backs
+returns-clause-turn g c = turn_came c.args.link.0 c.args.peer c.args.local c.args.site.now.root (helds c.args.conns.now.items) (helds c.push_reserved.new.self.items) g.N.Net.tells g.F.Files.tells (seen_as (g.F.Files.disk c.args.files.now) (g.F.Files.faults c.args.files.now) (g.F.Files.failed_read c.args.files.now)) (g.N.Net.trace c.args.net.now) (g.N.Net.trace c.args.net.now) (c.requires.table.below c.args.link.0 (omega arith))
+    c.new.result.held c.new.ensures.held (ap helds (c.push_reserved.ensures.items ∙ ap (λ l. l ++ c.new.result ∷ []) c.reserve.ensures.items) ∙ helds_append c.args.conns.now.items (c.new.result ∷ []))
+    (omega (arith, held_length c.args.conns.now.items, c.len.ensures, c.if-len-ge-CONNECTION_LIMIT.false)) c.requires.backs
 
 pub returns-clause-kept : goal.returns-clause-kept
 returns-clause-kept g c = push_kept c.args.link.0 c.args.peer c.args.local c.args.conns.now.items c.push_reserved.new.self.items c.new.result c.new.ensures.held c.new.ensures.numbers (c.push_reserved.ensures.items ∙ ap (λ l. l ++ c.new.result ∷ []) c.reserve.ensures.items) c.requires.table

@@ -1,0 +1,133 @@
+//! Looking for a head at the front of what came.
+ghost use Rattle.std.specs.Prelude.{◌≡◌, ◌≤◌, length, drop, true, IfOk};
+ghost use Rattle.buffer_pool.specs.Kept.{Kept, HeldWithin};
+ghost use Rattle.chunkqueue.specs.Items.{items_of, count_of, memory_front};
+ghost use Rattle.http_head.specs.Ends.{head_end, IsWithin};
+ghost use Rattle.http_head.specs.Head.{head_of};
+ghost use Rattle.server_model.specs.Request.{status_of};
+ghost use Rattle.server_model.specs.Reply.{is_accepted, continue_bytes};
+ghost use Rattle.server_model.specs.Steps.{is_in_memory};
+ghost use Rattle.connection.specs.Looking.{looked_by, looked_of, taken_in, progress_of, IsLooked};
+
+use crate::progress::Progress;
+use chunkqueue::{Chunks, Queue, Store};
+use http_head::{Framing, HEAD_LIMIT, HeadEnd, HeadRefusal, Request, head_end, read_head};
+use lt_bytes::NoMemory;
+use std::alloc::Global;
+
+/// What stands at the front of what came.
+#[derive(Drop)]
+pub(crate) enum Looked {
+    /// No whole head is there yet.
+    Unfinished,
+    /// A head that is refused with this status.
+    Refused(u16),
+    /// A head that was read, and how many bytes it takes.
+    Headed(Request, usize),
+}
+
+impl Looked {
+    /// How many bytes are taken up with it.
+    pub(crate) fn taken(&self) -> usize
+        ensures { result ≡ taken_in self.now }
+    {
+        match self {
+            Looked::Headed(_, taken) => *taken,
+            Looked::Unfinished | Looked::Refused(_) => 0,
+        }
+    }
+
+    /// How far the request is then.
+    pub(crate) fn progress(self) -> Progress
+        ensures { result ≡ progress_of self }
+    {
+        match self {
+            Looked::Unfinished => Progress::Awaiting,
+            Looked::Refused(status) => Progress::Refused(status),
+            Looked::Headed(request, _) => Progress::Heading(request),
+        }
+    }
+}
+
+/// Whether a body follows that is accepted: in chunks, or of a stated length that is within the limit.
+fn is_accepted(framing: Framing, limit: u64) -> bool
+    ensures { result ≡ is_accepted framing limit }
+{
+    match framing {
+        Framing::None => false,
+        Framing::Length(length) => 0 < length && length <= limit,
+        Framing::Chunked => true,
+    }
+}
+
+/// What a client is told first, where it waits for that (RFC 9110, sections 10.1.1 and 15.2.1).
+pub(crate) fn continue_bytes(request: &Request, limit: u64) -> &'static [u8]
+    ensures { result.now ≡ continue_bytes request.now limit }
+{
+    if request.expect && is_accepted(request.framing, limit) {
+        b"HTTP/1.1 100 Continue\r\n\r\n"
+    } else {
+        b""
+    }
+}
+
+/// The status with which a head is refused.
+fn status_of(refusal: HeadRefusal) -> u16
+    ensures { result ≡ status_of refusal }
+{
+    match refusal {
+        HeadRefusal::BadHead | HeadRefusal::BadTarget => 400,
+        HeadRefusal::TooLarge => 431,
+        HeadRefusal::BadVersion => 505,
+        HeadRefusal::NotImplemented => 501,
+        HeadRefusal::NoMemory => 500,
+    }
+}
+
+/// What a whole head asks for.
+fn judged(alloc: Global, head: &[u8]) -> Result<Looked, NoMemory>
+    ensures { IfOk result (λ found. found ≡ looked_by (length head.now) (head_of head.now)) }
+{
+    match read_head(alloc, head) {
+        Ok(request) => Ok(Looked::Headed(request, head.len())),
+        Err(HeadRefusal::NoMemory) => Err(NoMemory),
+        Err(refusal) => Ok(Looked::Refused(status_of(refusal))),
+    }
+}
+
+/// What the bytes begin with.
+fn found(alloc: Global, bytes: &[u8]) -> Result<Looked, NoMemory>
+    ensures found { IfOk result (λ found. found ≡ looked_of bytes.now) }
+    ensures within { IsWithin (length bytes.now) (head_end bytes.now) }
+{
+    match head_end(bytes) {
+        HeadEnd::NotYet => Ok(Looked::Unfinished),
+        HeadEnd::TooLarge => Ok(Looked::Refused(431)),
+        HeadEnd::At(n) => judged(alloc, &bytes[..n]),
+    }
+}
+
+/// Looks at what came, and takes nothing of it.
+pub(crate) fn look(alloc: Global, input: &Chunks) -> Result<Looked, NoMemory>
+    ensures looked { IfOk result (IsLooked (memory_front (items_of input.now))) }
+{
+    let mut bytes = [0; HEAD_LIMIT];
+    let count = input.peek(&mut bytes);
+    found(alloc, &bytes[..count])
+}
+
+/// Takes the first bytes off.
+pub(crate) fn skip(input: &mut Chunks, store: &mut Store, n: usize)
+    requires counted { HeldWithin store.old (length input.old.numbers) }
+    requires memory { is_in_memory (items_of input.old) ≡ true }
+    requires within { n ≤ count_of input.old }
+    ensures items { items_of input.new ≡ drop n (items_of input.old) }
+    ensures kept { Kept store.old input.old.numbers store.new input.new.numbers }
+{
+    let mut left = n;
+    while left > 0 {
+        let taken = left.min(input.front_bytes().len());
+        input.advance(store, taken);
+        left -= taken;
+    }
+}

@@ -1,0 +1,71 @@
+//! What a request settles of its reply's form.
+ghost use Rattle.std.specs.Prelude.{◌≡◌, option_map};
+ghost use Rattle.server_model.specs.Reply.{is_last_request};
+ghost use Rattle.server_model.specs.Plan.{is_head, is_served};
+ghost use Rattle.server_core.specs.Form.{form_of, refused_form};
+
+use http_head::Request;
+
+/// Requests that one connection may send.
+const REQUEST_LIMIT: u32 = 100;
+
+/// How the reply to a request is spelled, whatever it says.
+#[derive(Clone, Copy)]
+pub(crate) struct Form {
+    /// The version is HTTP/1 and this.
+    pub(crate) minor: u8,
+    /// No further request is served on the connection.
+    pub(crate) last: bool,
+    /// HEAD asks for the head alone.
+    pub(crate) head_only: bool,
+}
+
+impl Form {
+    /// That of the reply to a request of this number, counted from 0.
+    pub(crate) fn of(request: &Request, number: u32) -> Form
+        ensures form { result ≡ form_of number request.now }
+    {
+        Form {
+            minor: request.minor,
+            last: is_last(request, number),
+            head_only: is_head(request),
+        }
+    }
+
+    /// That of the reply to a request that is refused, of which the head was read or not: it is the last.
+    pub(crate) fn of_refused(request: Option<&Request>) -> Form
+        ensures form { result ≡ refused_form (option_map (λ r. r.now) request.entry) }
+    {
+        match request {
+            Some(request) => Form {
+                minor: request.minor,
+                last: true,
+                head_only: is_head(request),
+            },
+            None => Form {
+                minor: 1,
+                last: true,
+                head_only: false,
+            },
+        }
+    }
+}
+
+fn is_last(request: &Request, number: u32) -> bool
+    ensures { result ≡ is_last_request number request.now }
+{
+    request.close || number >= REQUEST_LIMIT - 1
+}
+
+fn is_head(request: &Request) -> bool
+    ensures { result ≡ is_head request.now.method }
+{
+    request.method.bytes() == b"HEAD".as_slice()
+}
+
+/// A file answers the request's method.
+pub(crate) fn is_served(request: &Request) -> bool
+    ensures { result ≡ is_served request.now.method }
+{
+    request.method.bytes() == b"GET".as_slice() || is_head(request)
+}

@@ -1,0 +1,15 @@
+use Rattle.std.proofs.Common.{refl}
+use Rattle.server_model.proofs.Persisting.{last_is, passed_below}
+use Rattle.server_model.proofs.laws.connections_end.Goals as goal
+
+pub returns-clause-asked : goal.returns-clause-asked
+returns-clause-asked c = last_is
+
+pub returns-clause-declined : goal.returns-clause-declined
+returns-clause-declined c world k status head = refl
+
+pub returns-clause-refused : goal.returns-clause-refused
+returns-clause-refused c world k status = refl
+
+pub returns-clause-limit : goal.returns-clause-limit
+returns-clause-limit c world input before k = passed_below world input k before
