@@ -1,15 +1,20 @@
 #!/usr/bin/env python3
 """Times the built server on recorded runs, from outside.
 
-One shared file of 1 MiB is taken by 1, 16, 64 and 250 clients, interleaved write by write. The time of a script with
-no clients is taken off. Prints the time of a write, the memory of a taken byte, and how they grow with the clients.
+One shared file of 1 MiB is taken by 1, 16, 64 and 250 clients, interleaved write by write: the time of a write, the
+memory of a taken byte, and how they grow with the clients. Then 10,000 small pipelined requests are answered, as 100
+connections one after another with 100 each, and as 250 connections that are open at once with 40 each, interleaved: the
+time of a request. The time of a script with no clients is taken off. Then bodies of 1 MiB are read, of a stated length and
+in chunks of 100 and of 4,096 bytes, and some of 64 KiB in chunks of 1: the time and the instructions of a byte of content. The time of the same
+script is taken off in which the client never arrives.
 
 Build first: cd crates/lighttpd && rt run -- replay -f ../../examples/hello.conf ../../examples/hello.script
 """
 import os
+import re
+import subprocess
 import sys
 import tempfile
-import time
 
 ROOT = os.path.dirname(os.path.dirname(os.path.abspath(__file__)))
 SERVER = os.path.join(ROOT, "crates", "lighttpd", "out", "lighttpd")
@@ -19,6 +24,14 @@ PIECE = 4096
 WRITES = SIZE // PIECE + 1
 CLIENTS = [1, 16, 64, 250]
 REPLAYS_OF_ONE = 16
+REQUESTS = 10_000
+# Connections, and how many of them are open at once.
+SHAPES = [(100, 1), (250, 250)]
+# The bytes of a chunk, and those of the body's content.
+BODIES = [(None, SIZE), (1, SIZE >> 4), (100, SIZE), (PIECE, SIZE)]
+POSTS = 8
+# A body is read much faster than its script, so its time takes many runs to find.
+REPLAYS_OF_BODIES = 16
 
 
 def script(clients):
@@ -28,6 +41,37 @@ def script(clients):
     lines += [f'data c{k} "{request}"' for k in range(clients)]
     turn = [f"take c{k} {PIECE} 1" for k in range(clients)]
     return "\n".join(lines + turn * WRITES) + "\n"
+
+
+def pipelined(connections, at_once):
+    """Small requests, as many on each connection; each reply is two writes, its head and its file."""
+    each = REQUESTS // connections
+    lines = ["lighttpd-script 1", 'file "/srv/a" 0 "hello"']
+    request = r"GET /a HTTP/1.1\r\nHost: h\r\n\r\n"
+    for first in range(0, connections, at_once):
+        group = range(first, first + at_once)
+        lines += ["accept 10.0.0.5:40000 127.0.0.1:80"] * at_once
+        lines += [f'data c{k} "{request}"' for k in group] * each
+        lines += [f"take c{k} {PIECE} 1" for k in group] * (2 * each)
+        lines += [f"end c{k}" for k in group]
+    return "\n".join(lines) + "\n"
+
+
+def posted(chunk, size, arrives, posts=POSTS):
+    """Requests with a body each, one connection after another, which come in pieces. Lines of a client that isn't open are skipped."""
+    if chunk is None:
+        sent = f"Content-Length: {size}\r\n\r\n" + "a" * size
+    else:
+        sizes = [min(chunk, size - at) for at in range(0, size, chunk)] + [0]
+        sent = "Transfer-Encoding: chunked\r\n\r\n" + "".join(f"{n:x}\r\n{'a' * n}\r\n" for n in sizes)
+    sent = "POST /a HTTP/1.1\r\nHost: h\r\n" + sent
+    pieces = [sent[at : at + PIECE].replace("\r", "\\r").replace("\n", "\\n") for at in range(0, len(sent), PIECE)]
+    lines = ["lighttpd-script 1", 'file "/srv/a" 0 "hello"']
+    for k in range(posts):
+        lines += ["accept 10.0.0.5:40000 127.0.0.1:80"] * arrives
+        lines += [f'data c{k} "{piece}"' for piece in pieces]
+        lines += [f"take c{k} {PIECE} 1", f"end c{k}"]
+    return "\n".join(lines) + "\n"
 
 
 def run(conf, path):
@@ -45,6 +89,17 @@ def run(conf, path):
     return usage.ru_utime + usage.ru_stime, usage.ru_maxrss * 1024
 
 
+def instructions(conf, path):
+    """Instructions of one run, by callgrind."""
+    told = subprocess.run(
+        ["valgrind", "--tool=callgrind", f"--callgrind-out-file={path}.calls", SERVER, "replay", "-f", conf, path],
+        capture_output=True,
+        text=True,
+        check=True,
+    )
+    return int(re.search(r"Collected : (\d+)", told.stderr).group(1))
+
+
 def best(conf, path, times):
     """The least time of some runs, and the memory of one."""
     runs = [run(conf, path) for _ in range(times)]
@@ -59,11 +114,20 @@ def main():
         with open(conf, "w") as f:
             f.write('server.document-root = "/srv"\n')
 
-        def measured(clients, times):
-            path = os.path.join(folder, f"script{clients}")
+        def replayed(text, times):
+            path = os.path.join(folder, "script")
             with open(path, "w") as f:
-                f.write(script(clients))
+                f.write(text)
             return best(conf, path, times)
+
+        def counted(text):
+            path = os.path.join(folder, "script")
+            with open(path, "w") as f:
+                f.write(text)
+            return instructions(conf, path)
+
+        def measured(clients, times):
+            return replayed(script(clients), times)
 
         empty, base = measured(0, 10)
         print(f"no client: {empty * 1000:.1f} ms, {base >> 20} MiB")
@@ -84,8 +148,30 @@ def main():
         growth = rows[-1][1] / rows[0][1]
         print(f"time of a write, 250 clients against 1: {growth:.2f}")
         print(f"memory of a taken byte, 250 clients against 16: {rows[-1][2] / rows[1][2]:.2f}")
+        times = []
+        for connections, at_once in SHAPES:
+            seconds, _ = replayed(pipelined(connections, at_once), 5)
+            times.append((seconds - empty) / REQUESTS)
+            print(f"{connections} connections, {at_once} at once: {times[-1] * 1e6:6.2f} us a request")
+        ratio = max(times) / min(times)
+        print(f"time of a request, the dearer way against the cheaper: {ratio:.2f}")
+        bytes_read = []
+        for chunk, size in BODIES:
+            texts = [posted(chunk, size, arrives) for arrives in (True, False)]
+            pairs = [[replayed(text, 1)[0] for text in texts] for _ in range(REPLAYS_OF_BODIES)]
+            read, unread = (min(seconds) for seconds in zip(*pairs))
+            bytes_read.append((read - unread) / (POSTS * size))
+            counts = [counted(posted(chunk, size, arrives, 1)) for arrives in (True, False)]
+            how = "of a stated length" if chunk is None else f"in chunks of {chunk}"
+            print(f"a body {how}: {bytes_read[-1] * 1e9:6.2f} ns and {(counts[0] - counts[1]) / size:6.2f} instructions a byte")
+        chunked = bytes_read[-1] / bytes_read[0]
+        print(f"a byte of a body in large chunks against one of a stated length: {chunked:.2f}")
         if growth >= 1.5:
             sys.exit("a write takes half as long again with many clients")
+        if ratio >= 1.5:
+            sys.exit("a request takes half as long again one way than the other")
+        if chunked > 2:
+            sys.exit("a byte of a body in large chunks takes more than twice as long as one of a stated length")
 
 
 main()
