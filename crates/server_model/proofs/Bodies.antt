@@ -5,6 +5,8 @@ use Rattle.std.proofs.lemmas.Bool.Decides.{nat_tests}
 use Rattle.std.proofs.Math.Seq.{drop-length}
 use Rattle.http_head.specs.declared.framing.Framing.{Framing}
 use Rattle.http_head.specs.declared.framing.Framing.TheVariants as framed
+use Rattle.http_head.specs.Options.{expects}
+use Rattle.http_head.proofs.OptionLemmas.{options_so}
 use Rattle.lt_http_body.specs.declared.standing.Standing.{Standing}
 use Rattle.lt_http_body.specs.declared.state.State.{State}
 use Rattle.lt_http_body.specs.declared.state.State.TheVariants as state
@@ -16,7 +18,7 @@ use Rattle.server_model.specs.Request.{Head, Request, Open, Declined, Complete, 
 use Rattle.server_model.specs.Plan.{World}
 use Rattle.server_model.specs.Reply.{is_accepted, continue_of, reply}
 use Rattle.server_model.specs.Stream.{IsPrefix}
-use Rattle.server_model.proofs.Requests.{front_headed, complete_front, complete_content, front_rest, over_after, over_data, over_taken}
+use Rattle.server_model.proofs.Requests.{front_headed, front_read, complete_front, complete_content, front_rest, over_after, over_data, over_taken}
 use Rattle.server_model.proofs.Replying.{headed_begins}
 use Rattle.server_model.proofs.Within.{chunks_within}
 
@@ -163,6 +165,12 @@ continue_asked head asks takes = (λ i. if asks i && takes i then continue_line 
 
 pub continue_unasked : (head : Head) → head.expect ≡ false → continue_of head ≡ []
 continue_unasked head asks = ap (λ (t : Bool). if t && is_accepted head.framing body_limit then continue_line else []) asks
+
+-- HTTP/1.0 has no such reply
+pub continue_old : (bytes rest : List ℕ) (head : Head) → front_of bytes ≡ HasHead head rest → head.minor ≡ 0 → continue_of head ≡ []
+continue_old bytes rest head front old =
+    let read = front_read bytes head rest front in
+    continue_unasked head ((options_so (take read.0 bytes) head read.1).1 ∙ ap (λ (minor : ℕ). expects minor head.fields) old)
 
 -- for want of a body that is accepted
 continue_refused : (head : Head) → is_accepted head.framing body_limit ≡ false → continue_of head ≡ []

@@ -4,7 +4,7 @@ use Rattle.std.specs.Prelude.{not}
 use Rattle.std.proofs.lemmas.Bool.{false≢true}
 use Rattle.std.proofs.lemmas.Bool.Decides.{nat_tests}
 use Rattle.http_head.specs.Options.{closes}
-use Rattle.http_head.proofs.OptionLemmas.{closes_so}
+use Rattle.http_head.proofs.OptionLemmas.{options_so}
 use Rattle.server_model.specs.Request.{Head, Request, Unfinished, Refused, Open, Declined, Complete, request_of, rest_of}
 use Rattle.server_model.specs.Plan.{World}
 use Rattle.server_model.specs.Reply.{request_limit, is_last_request, reply}
@@ -18,7 +18,7 @@ says_so : (bytes : List ℕ) (head : Head) (content : List ℕ) → request_of b
 says_so bytes head content is =
     let f = complete_front bytes head content is in
     let h = front_read bytes head f.0 f.1 in
-    closes_so (take h.0 bytes) head h.1
+    (options_so (take h.0 bytes) head h.1).0
 
 -- the reply to a request is the last exactly where its head says so, or no further request may come
 pub last_is : (world : World) (k : ℕ) (bytes : List ℕ) (head : Head) (content : List ℕ) → request_of bytes ≡ Complete head content → (reply world k (Complete head content)).last ≡ (closes head.minor head.fields || nat_le request_limit (k + 1))

@@ -95,6 +95,8 @@ pub fn clients_continue()
     // It is due where the client asks for it and a body follows that is accepted, and nowhere else.
     ensures asked { (head : Head) → head.expect ≡ true → is_accepted head.framing body_limit ≡ true → continue_of head ≡ codes "HTTP/1.1 100 Continue" ++ 13 ∷ 10 ∷ 13 ∷ 10 ∷ [] }
     ensures unasked { (head : Head) → head.expect ≡ false → continue_of head ≡ [] }
+    // HTTP/1.0 has no such reply.
+    ensures old { (bytes rest : List ℕ) (head : Head) → front_of bytes ≡ HasHead head rest → head.minor ≡ 0 → continue_of head ≡ [] }
     ensures bodiless { (head : Head) → head.framing ≡ framed.None → continue_of head ≡ [] }
     ensures large { (head : Head) (n : ℕ) → head.framing ≡ framed.Length n → body_limit < n → continue_of head ≡ [] }
 

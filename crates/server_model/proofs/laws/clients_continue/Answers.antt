@@ -1,5 +1,5 @@
 use Rattle.std.proofs.Common.{refl}
-use Rattle.server_model.proofs.Bodies.{continue_first, continue_asked, continue_unasked, continue_bodiless, continue_large}
+use Rattle.server_model.proofs.Bodies.{continue_first, continue_asked, continue_unasked, continue_old, continue_bodiless, continue_large}
 use Rattle.server_model.proofs.Growing.{reply_grows}
 use Rattle.server_model.proofs.laws.clients_continue.Goals as goal
 
@@ -23,3 +23,6 @@ returns-clause-large c = continue_large
 
 pub returns-clause-stays : goal.returns-clause-stays
 returns-clause-stays c world k bytes more = reply_grows bytes more world k
+
+pub returns-clause-old : goal.returns-clause-old
+returns-clause-old c = continue_old
