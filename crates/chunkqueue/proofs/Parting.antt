@@ -1,19 +1,20 @@
 -- Chunks that are parted after their first items.
 use Rattle.std.proofs.Common.{◌≡◌, ℕ, ◌+◌, ◌-◌, ◌≤◌, ◌<◌, List, [], ◌∷◌, ◌++◌, length, take, drop, map, arith, ap, sym, ◌∙◌, subst, append_assoc}
-use Rattle.std.proofs.lemmas.List.{length-append, append-nil, take-append-le, drop-append-le, take-append-drop, take-map, drop-map}
+use Rattle.std.proofs.lemmas.List.{length-append, length-drop, append-nil, take-append-le, drop-append-le, take-append-drop, take-map, drop-map}
+use Rattle.std.proofs.Math.Seq.{take-add}
 use Rattle.buffer_pool.specs.State.{ChunkState, PoolState}
 use Rattle.buffer_pool.specs.Edits.{first_of, with_first, dropped, as_file}
 use Rattle.buffer_pool.specs.Kept.{numbers, Kept}
 use Rattle.buffer_pool.specs.declared.buffer.Kind.{Kind}
 use Rattle.buffer_pool.specs.declared.buffer.Kind.TheVariants.{Bytes, File}
 use Rattle.buffer_pool.proofs.Keeping.{numbers_append, places_append, made_between-sum}
-use Rattle.chunkqueue.specs.Items.{Item, Byte, chunk_items, range}
+use Rattle.chunkqueue.specs.Items.{Item, Byte, chunk_items, range, staged_behind}
 use Rattle.chunkqueue.specs.Plain.{chunk_of, segment_left, AllHeld, NoneStaged}
-use Rattle.chunkqueue.specs.Pooled.{segment_from, segment_of, segments_of, AllSound, AllPaired, BehindPaired, AreKept, CanFollow, Gains, IsCut, items_of_chunks}
+use Rattle.chunkqueue.specs.Pooled.{segment_from, segment_of, segments_of, AllSound, AllPaired, BehindPaired, AreKept, CanFollow, Gains, Moved, items_of_chunks, staged_of_chunks}
 use Rattle.chunkqueue.specs.declared.segment.Segment.{Segment}
-use Rattle.chunkqueue.proofs.Cutting.{take-parts, drop-parts}
+use Rattle.chunkqueue.proofs.Cutting.{take-parts, drop-parts, nothing_behind}
 use Rattle.chunkqueue.proofs.Following.{items_of_chunks-append}
-use Rattle.chunkqueue.proofs.Pooling.{as_memory}
+use Rattle.chunkqueue.proofs.Pooling.{as_memory, gains_both}
 use Rattle.chunkqueue.proofs.Ranges.{length-range, take-range, drop-range}
 use Rattle.chunkqueue.proofs.Segments.{length-chunk_items, NoneStaged-first, NoneStaged-staged}
 
@@ -137,37 +138,58 @@ back_follows a b l is can =
 pub follows_kept : (l : List ChunkState) → CanFollow l → AreKept l
 follows_kept l can = record { held = can.held; first = NoneStaged-first (segments_of l) can.none; sound = can.sound; paired = can.paired }
 
-pub cut_whole : (l a b : List ChunkState) (n left : ℕ) → CanFollow l → a ++ b ≡ l → length (items_of_chunks a) + left ≡ n → left ≡ 0 → IsCut l a b n
-cut_whole l a b n left can is size none = record {
-  kept = follows_kept a (front_follows a b l is can);
-  follows = back_follows a b l is can;
-  items = sym (ap (λ (m : List ChunkState). take n (items_of_chunks m)) (sym is) ∙ ap (take n) (items_of_chunks-append a b) ∙ take-parts (items_of_chunks a) (items_of_chunks b) n 0 (omega arith) ∙ append-nil (items_of_chunks a));
-  left = sym (ap (λ (m : List ChunkState). drop n (items_of_chunks m)) (sym is) ∙ ap (drop n) (items_of_chunks-append a b) ∙ drop-parts (items_of_chunks a) (items_of_chunks b) n 0 (omega arith));
-  staged = NoneStaged-staged (segments_of a) (front_follows a b l is can).none;
-}
-
-pub cut_inside : (l a b c d : List ChunkState) (n left : ℕ) → CanFollow l → a ++ b ≡ l → length (items_of_chunks a) + left ≡ n → Gains a c (take left (items_of_chunks b)) → CanFollow d → items_of_chunks d ≡ drop left (items_of_chunks b) → IsCut l c d n
-cut_inside l a b c d n left can is size gains follows rest = record {
-  kept = gains.kept;
-  follows = follows;
-  items = gains.items ∙ sym (ap (λ (m : List ChunkState). take n (items_of_chunks m)) (sym is) ∙ ap (take n) (items_of_chunks-append a b) ∙ take-parts (items_of_chunks a) (items_of_chunks b) n left size);
-  left = rest ∙ sym (ap (λ (m : List ChunkState). drop n (items_of_chunks m)) (sym is) ∙ ap (drop n) (items_of_chunks-append a b) ∙ drop-parts (items_of_chunks a) (items_of_chunks b) n left size);
-  staged = gains.staged ∙ NoneStaged-staged (segments_of a) (front_follows a b l is can).none;
-}
-
--- something is left behind
-pub cut_some : (l a b : List ChunkState) (n left : ℕ) → a ++ b ≡ l → length (items_of_chunks a) + left ≡ n → n ≤ length (items_of_chunks l) → 0 < left → 0 < length b
-cut_some l a [] n left is size within some = absurd (omega (arith, ap (λ (m : List ChunkState). length (items_of_chunks m)) (sym is ∙ append-nil a)))
-cut_some l a (c ∷ b) n left is size within some = omega arith
-
 first_within : (b : List ChunkState) → 0 < length b → segment_left (segment_of (first_of b)) ≤ length (items_of_chunks b)
 first_within [] some = absurd (omega arith)
 first_within (c ∷ b) some = omega (arith, length-chunk_items (segment_of c), length-append (chunk_items (chunk_of (segment_of c))) (items_of_chunks b))
 
--- a chunk is split only where not all is moved
-pub cut_less : (l a b : List ChunkState) (n left : ℕ) → a ++ b ≡ l → length (items_of_chunks a) + left ≡ n → 0 < length b → left < segment_left (segment_of (first_of b)) → n < length (items_of_chunks l)
-cut_less l a b n left is size some less =
-    omega (arith, first_within b some, ap (λ (m : List ChunkState). length (items_of_chunks m)) is, ap length (items_of_chunks-append a b), length-append (items_of_chunks a) (items_of_chunks b))
+-- whole chunks went behind the others
+pub whole_moved : (l from a b now : List ChunkState) (n left : ℕ) → CanFollow from → a ++ b ≡ from → length (items_of_chunks a) + left ≡ n → AreKept l → AreKept now → items_of_chunks now ≡ items_of_chunks l ++ items_of_chunks a
+    → staged_of_chunks now ≡ staged_behind (items_of_chunks l) (staged_of_chunks l) (staged_of_chunks a) → Moved l from now b n left
+whole_moved l from a b now n left can is size had still items staged =
+    let k = length (items_of_chunks a) in
+    record {
+      some = k;
+      count = size;
+      gains = record {
+        kept = still;
+        items = items ∙ ap (λ (i : List Item). items_of_chunks l ++ i)
+            (sym (ap (λ (m : List ChunkState). take k (items_of_chunks m)) (sym is) ∙ ap (take k) (items_of_chunks-append a b) ∙ take-parts (items_of_chunks a) (items_of_chunks b) k 0 (omega arith) ∙ append-nil (items_of_chunks a)));
+        staged = staged ∙ ap (staged_behind (items_of_chunks l) (staged_of_chunks l)) (NoneStaged-staged (segments_of a) (front_follows a b from is can).none) ∙ nothing_behind (segments_of l) had.held;
+      };
+      follows = back_follows a b from is can;
+      items = sym (ap (λ (m : List ChunkState). drop k (items_of_chunks m)) (sym is) ∙ ap (drop k) (items_of_chunks-append a b) ∙ drop-parts (items_of_chunks a) (items_of_chunks b) k 0 (omega arith));
+    }
+
+module _ (l from now rest : List ChunkState) (n left : ℕ) (moved : Moved l from now rest n left) where
+  left_count : length (items_of_chunks rest) ≡ length (items_of_chunks from) - moved.some
+  left_count = ap length moved.items ∙ length-drop moved.some (items_of_chunks from)
+
+  -- something is left
+  pub moved_some : n ≤ length (items_of_chunks from) → 0 < left → 0 < length rest
+  moved_some within some = by rest (omega (arith, left_count, moved.count))
+    where
+      by : (m : List ChunkState) → 0 < length (items_of_chunks m) → 0 < length m
+      by [] h = h
+      by (c ∷ m) h = omega arith
+
+  -- a chunk is split only where not all is moved
+  pub moved_less : 0 < length rest → left < segment_left (segment_of (first_of rest)) → n < length (items_of_chunks from)
+  moved_less some less = omega (arith, first_within rest some, left_count, moved.count)
+
+  -- and then its first items went there too
+  pub moved_more : (last : List ChunkState) → Gains now last (take left (items_of_chunks rest)) → Gains l last (take n (items_of_chunks from))
+  moved_more last gains =
+      subst (λ (i : List Item). Gains l last i)
+      (ap (λ (i : List Item). take moved.some (items_of_chunks from) ++ take left i) moved.items ∙ sym (take-add moved.some left (items_of_chunks from)) ∙ ap (λ (k : ℕ). take k (items_of_chunks from)) moved.count)
+      (gains_both l now last (take moved.some (items_of_chunks from)) (take left (items_of_chunks rest)) moved.gains gains)
+
+-- the buffers of the chunks that are left, beside those that were given
+pub beside_kept : (p q : PoolState) (given from front rest now last : List ℕ) → from ≡ front ++ rest → last ≡ rest → Kept p (given ++ front) q now → Kept p (given ++ from) q (now ++ last)
+beside_kept p q given from front rest now last is same one = rw (is, same) (record {
+  rises = one.rises;
+  counts = λ n. omega (arith, one.counts n, places_append n given (front ++ rest), places_append n front rest, places_append n given front, places_append n now rest);
+  total = omega (arith, one.total, length-append given (front ++ rest), length-append front rest, length-append given front, length-append now rest);
+})
 
 pub cut_numbers : (l a b : List ChunkState) → a ++ b ≡ l → numbers l ≡ numbers a ++ numbers b
 cut_numbers l a b is = ap numbers (sym is) ∙ numbers_append a b
@@ -179,16 +201,16 @@ as_parts a b l e none is = is ∙ ap (λ (m : List ChunkState). m ++ l) none
 pub as_count : (a e : List ChunkState) (n left : ℕ) → e ≡ [] → length (items_of_chunks a) + left ≡ length (items_of_chunks e) + n → length (items_of_chunks a) + left ≡ n
 as_count a e n left none is = omega (arith, is, ap (λ (m : List ChunkState). length (items_of_chunks m)) none)
 
-pub cut_kept : (p q : PoolState) (l a b c d : List ChunkState) → a ++ b ≡ l → numbers d ≡ numbers b → Kept p (numbers a) q (numbers c) → Kept p (numbers l) q (numbers c ++ numbers d)
-cut_kept p q l a b c d is same one = rw (cut_numbers l a b is, same) (record {
-  rises = one.rises;
-  counts = λ n. omega (arith, one.counts n, places_append n (numbers a) (numbers b), places_append n (numbers c) (numbers b));
-  total = omega (arith, one.total, length-append (numbers a) (numbers b), length-append (numbers c) (numbers b));
-})
+pub parts_long : (l a b : List ChunkState) → a ++ b ≡ l → length a + length b ≡ length l
+parts_long l a b is = sym (length-append a b) ∙ ap length is
 
-pub stolen_kept : (p q r : PoolState) (l from still front rest next : List ℕ) → still ≡ from → Kept p still q (front ++ rest) → Kept q (l ++ front) r next → Kept p (l ++ from) r (next ++ rest)
-stolen_kept p q r l from still front rest next e one two = rw (← e) (record {
+pub numbers_long : (l a b : List ChunkState) → a ++ b ≡ l → length (numbers a) + length (numbers b) ≡ length (numbers l)
+numbers_long l a b is = sym (length-append (numbers a) (numbers b)) ∙ ap length (sym (cut_numbers l a b is))
+
+-- two calls, of which the second is given what the first left
+pub stolen_kept : (p q r : PoolState) (l from still now rest next last : List ℕ) → still ≡ from → Kept p (l ++ still) q (now ++ rest) → last ≡ rest → Kept q now r next → Kept p (l ++ from) r (next ++ last)
+stolen_kept p q r l from still now rest next last e one same two = rw (← e, same) (record {
   rises = omega (arith, one.rises, two.rises);
-  counts = λ n. grind (arith, one.counts n, two.counts n, places_append n l still, places_append n front rest, places_append n l front, places_append n next rest, made_between-sum p.made q.made r.made n one.rises two.rises);
-  total = omega (arith, one.total, two.total, length-append l still, length-append front rest, length-append l front, length-append next rest);
+  counts = λ n. grind (arith, one.counts n, two.counts n, places_append n now rest, places_append n next rest, made_between-sum p.made q.made r.made n one.rises two.rises);
+  total = omega (arith, one.total, two.total, length-append now rest, length-append next rest);
 })

@@ -236,12 +236,11 @@ gains_both l m n a b one two = record {
 }
 
 -- bytes in a chunk of their own, as the code finds it
-pub piece_as : (l l₁ l₂ next : List ChunkState) (c x : ChunkState) (bytes : List ℕ) → AreKept l → 0 < length bytes → length bytes ≤ BUFFER_SIZE → l₁ ≡ l → l₂ ≡ l₁
-    → (0 < length l₁ → MERGE_SIZE < weight_of (last_of l₁) + length bytes) → c ≡ blank c.number → x ≡ put_in c bytes → next ≡ l₂ ++ x ∷ [] → Gains l next (map Byte bytes)
-piece_as l l₁ l₂ next c x bytes had some fits e₁ e₂ apart empty put is =
-    let now = is ∙ ap (λ (y : ChunkState). l₂ ++ y ∷ []) (put ∙ ap (λ (y : ChunkState). put_in y bytes) empty) ∙ ap (λ (m : List ChunkState). m ++ put_in (blank c.number) bytes ∷ []) (e₂ ∙ e₁) in
-    let far = subst (λ (m : List ChunkState). 0 < length m → MERGE_SIZE < weight_of (last_of m) + length bytes) e₁ apart in
-    subst (λ (m : List ChunkState). Gains l m (map Byte bytes)) (sym now) (piece_gains l c.number bytes had some fits far)
+pub piece_as : (l m next : List ChunkState) (c x : ChunkState) (bytes : List ℕ) → AreKept l → 0 < length bytes → length bytes ≤ BUFFER_SIZE → m ≡ l
+    → (0 < length l → MERGE_SIZE < weight_of (last_of l) + length bytes) → c ≡ blank c.number → x ≡ put_in c bytes → next ≡ m ++ x ∷ [] → Gains l next (map Byte bytes)
+piece_as l m next c x bytes had some fits same apart empty put is =
+    let now = is ∙ ap (λ (y : ChunkState). m ++ y ∷ []) (put ∙ ap (λ (y : ChunkState). put_in y bytes) empty) ∙ ap (λ (k : List ChunkState). k ++ put_in (blank c.number) bytes ∷ []) same in
+    subst (λ (k : List ChunkState). Gains l k (map Byte bytes)) (sym now) (piece_gains l c.number bytes had some fits apart)
 
 pub put_weight : (l next : List ChunkState) (bytes : List ℕ) → 0 < length l → (last_of l).kind ≡ Bytes → next ≡ with_last l (put_in (last_of l) bytes) → length bytes ≤ weight_of (last_of next)
 put_weight l next bytes some last is =

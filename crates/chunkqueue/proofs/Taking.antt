@@ -34,6 +34,6 @@ kept_taken p q l new n one is = rw is (record {
   total = omega (arith, one.total, length-append l (n ∷ []));
 })
 
-pub piece_kept : (p p₁ p₂ q r : PoolState) (l l₂ next : List ℕ) (m n : ℕ) → p₁ ≡ p → p₂ ≡ p₁ → Kept p₂ [] q (n ∷ []) → Kept q (n ∷ []) r (m ∷ []) → m ≡ n → l₂ ≡ l → next ≡ l₂ ++ m ∷ [] → Kept p l r next
-piece_kept p p₁ p₂ q r l l₂ next m n e₁ e₂ one two same e is =
-    rw (is, e, same) (kept_pushed p q r l n (rw (e₂, e₁) at one) (rw same at two))
+pub piece_kept : (p p₁ q r : PoolState) (l l₁ next : List ℕ) (m n : ℕ) → p₁ ≡ p → Kept p₁ [] q (n ∷ []) → Kept q (n ∷ []) r (m ∷ []) → m ≡ n → l₁ ≡ l → next ≡ l₁ ++ m ∷ [] → Kept p l r next
+piece_kept p p₁ q r l l₁ next m n still one two same e is =
+    rw (is, e, same) (kept_pushed p q r l n (rw still at one) (rw same at two))

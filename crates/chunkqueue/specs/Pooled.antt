@@ -149,10 +149,10 @@ pub record CanFollow (chunks : List ChunkState) : Type 0 where
   pub sound : AllSound chunks
   pub paired : BehindPaired chunks
 
--- the first n items stand in a list of their own, and nothing is staged
-pub record IsCut (chunks front rest : List ChunkState) (n : ℕ) : Type 0 where
-  pub kept : AreKept front
+-- the first n items but the last ones, as many as are left, went behind the others
+pub record Moved (chunks from now rest : List ChunkState) (n left : ℕ) : Type 0 where
+  pub some : ℕ
+  pub count : some + left ≡ n
+  pub gains : Gains chunks now (take some (items_of_chunks from))
   pub follows : CanFollow rest
-  pub items : items_of_chunks front ≡ take n (items_of_chunks chunks)
-  pub left : items_of_chunks rest ≡ drop n (items_of_chunks chunks)
-  pub staged : staged_of_chunks front ≡ []
+  pub items : items_of_chunks rest ≡ drop some (items_of_chunks from)

@@ -4,7 +4,7 @@ ghost use Rattle.buffer_pool.specs.Kept.{numbers, Kept, HeldWithin};
 ghost use Rattle.chunkqueue.specs.Items.{Byte, range};
 ghost use Rattle.chunkqueue.specs.Pooled.{AreKept, Gains};
 
-use crate::merging::{MERGE_SIZE, fill_back, merge_back};
+use crate::merging::{MERGE_SIZE, absorb_back, fill_back};
 use buffer_pool::{BUFFER_SIZE, ChunkList, Pool};
 use lt_bytes::NoMemory;
 
@@ -21,7 +21,7 @@ pub(crate) fn append_piece(chunks: &mut ChunkList, pool: &mut Pool, piece: &[u8]
     ensures filled { pool.new.filled ≤ pool.old.filled + max (length piece.now) MERGE_SIZE }
     ensures kept { Kept pool.old (numbers chunks.old) pool.new (numbers chunks.new) }
 {
-    if fill_back(chunks, pool, piece) || merge_back(chunks, pool, piece) {
+    if absorb_back(chunks, pool, piece) {
         return;
     }
     match pool.take() {

@@ -5,10 +5,11 @@ ghost use Rattle.buffer_pool.specs.Kept.{numbers, Kept, HeldWithin};
 ghost use Rattle.chunkqueue.specs.Items.{staged_behind};
 ghost use Rattle.chunkqueue.specs.Pooled.{AreKept, CanFollow, Gains, items_of_chunks, staged_of_chunks, staged_from, weight_of};
 
-use crate::merging::{MERGE_SIZE, merge_back};
-use buffer_pool::{Chunk, ChunkList, Kind, Pool};
+use crate::merging::{MERGE_SIZE, absorb_back};
+use buffer_pool::{BUFFER_SIZE, Chunk, ChunkList, Kind, Pool};
 
-/// Moves the chunks of `from` behind the others. Where two that become neighbours are small, they are merged.
+/// Moves the chunks of `from` behind the others. Bytes of the first two for which there is room in the chunk before them are
+/// put there, and where two that become neighbours are small, they are merged.
 pub(crate) fn append_chunks(chunks: &mut ChunkList, pool: &mut Pool, from: &mut ChunkList)
     requires kept { AreKept chunks.old }
     requires behind { AreKept from.old }
@@ -18,7 +19,9 @@ pub(crate) fn append_chunks(chunks: &mut ChunkList, pool: &mut Pool, from: &mut 
     ensures items { items_of_chunks chunks.new ≡ items_of_chunks chunks.old ++ items_of_chunks from.old }
     ensures staged { staged_of_chunks chunks.new ≡ staged_behind (items_of_chunks chunks.old) (staged_of_chunks chunks.old) (staged_of_chunks from.old) }
     ensures emptied { from.new ≡ [] }
-    ensures filled { pool.new.filled ≤ pool.old.filled + 2 * MERGE_SIZE }
+    ensures len { length chunks.new ≤ length chunks.old + length from.old }
+    ensures spare { length pool.old.free ≤ length pool.new.free }
+    ensures filled { pool.new.filled ≤ pool.old.filled + 2 * BUFFER_SIZE }
     ensures kept { Kept pool.old (numbers chunks.old ++ numbers from.old) pool.new (numbers chunks.new) }
 {
     if chunks.len() == 0 {
@@ -57,7 +60,7 @@ fn staged_front(chunks: &ChunkList) -> usize
     }
 }
 
-// Moves the first chunk of `from` behind the others, or its bytes, where they are few with those before them.
+// Moves the first chunk of `from` behind the others, or its bytes into the last of these.
 fn move_front(chunks: &mut ChunkList, pool: &mut Pool, from: &mut ChunkList)
     requires kept { AreKept chunks.old }
     requires some { 0 < length chunks.old }
@@ -69,7 +72,8 @@ fn move_front(chunks: &mut ChunkList, pool: &mut Pool, from: &mut ChunkList)
     ensures some { 0 < length chunks.new }
     ensures from { from.new ≡ drop 1 from.old }
     ensures len { length chunks.new + length from.new ≤ length chunks.old + length from.old }
-    ensures filled { pool.new.filled ≤ pool.old.filled + MERGE_SIZE }
+    ensures spare { length pool.old.free ≤ length pool.new.free }
+    ensures filled { pool.new.filled ≤ pool.old.filled + BUFFER_SIZE }
     ensures kept { Kept pool.old (numbers chunks.old ++ numbers from.old) pool.new (numbers chunks.new ++ numbers from.new) }
 {
     if let Some(chunk) = from.pop_front() {
@@ -87,12 +91,13 @@ fn attach(chunks: &mut ChunkList, pool: &mut Pool, chunk: Chunk)
     ensures last { weight_of chunk ≤ weight_of (last_of chunks.new) }
     ensures some { 0 < length chunks.new }
     ensures len { length chunks.new ≤ length chunks.old + 1 }
-    ensures filled { pool.new.filled ≤ pool.old.filled + MERGE_SIZE }
+    ensures spare { length pool.old.free ≤ length pool.new.free }
+    ensures filled { pool.new.filled ≤ pool.old.filled + BUFFER_SIZE }
     ensures kept { Kept pool.old (numbers chunks.old ++ chunk.number ∷ []) pool.new (numbers chunks.new) }
 {
     match chunk.kind() {
         Kind::Bytes => {
-            if merge_back(chunks, pool, chunk.bytes()) {
+            if absorb_back(chunks, pool, chunk.bytes()) {
                 pool.give(chunk);
             } else {
                 chunks.push_back(chunk);

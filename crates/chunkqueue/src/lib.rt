@@ -2,7 +2,7 @@
 //! Promised: each call is its list operation on items, want of memory and a failed read change
 //! nothing, what is offered is the first bytes, and no buffer is lost or doubled.
 //! `Queue` says so of every queue; `PlainQueue` keeps a segment of memory for each push.
-//! Stands on `lt_bytes` (`NoMemory`), `lt_world` (`Files`) and `buffer_pool` (the words on buffers).
+//! Stands on `lt_bytes` (`NoMemory`), `lt_world` (`Files`) and `buffer_pool` (the pool and its lists).
 #![tactic(auto)]
 
 mod advancing;
@@ -30,10 +30,10 @@ pub use queue::Queue;
 pub use store::PlainStore;
 
 /// The queue that the server works with.
-pub type Chunks = PlainQueue;
+pub type Chunks = ChunkQueue;
 
 /// The owner of its buffers.
-pub type Store = PlainStore;
+pub type Store = buffer_pool::Pool;
 
 #[cfg(test)]
 mod both_tests;

@@ -32,6 +32,7 @@ pub(crate) fn fill_back(chunks: &mut ChunkList, pool: &mut Pool, bytes: &[u8]) -
     ensures gains { OnTrue result (Gains chunks.old chunks.new (map Byte bytes.now)) }
     ensures same { OnFalse result ((chunks.new ≡ chunks.old) × (pool.new ≡ pool.old)) }
     ensures full { OnFalse result (0 < length chunks.old → (last_of chunks.old).kind ≡ Bytes → (last_of chunks.old).room < length bytes.now) }
+    ensures last { OnTrue result (length bytes.now ≤ weight_of (last_of chunks.new)) }
     ensures numbers { numbers chunks.new ≡ numbers chunks.old }
     ensures pool { FillsOnly pool.old pool.new (length bytes.now) }
 {
@@ -71,4 +72,20 @@ pub(crate) fn merge_back(chunks: &mut ChunkList, pool: &mut Pool, bytes: &[u8]) 
     }
     chunks.put_back(pool, bytes);
     true
+}
+
+/// Puts bytes into the last chunk, where there is room for all of them, or where it holds few bytes with them.
+pub(crate) fn absorb_back(chunks: &mut ChunkList, pool: &mut Pool, bytes: &[u8]) -> bool
+    requires kept { AreKept chunks.old }
+    requires some { 0 < length bytes.now }
+    requires most { length bytes.now ≤ BUFFER_SIZE }
+    ensures gains { OnTrue result (Gains chunks.old chunks.new (map Byte bytes.now)) }
+    ensures same { OnFalse result ((chunks.new ≡ chunks.old) × (pool.new ≡ pool.old)) }
+    ensures full { OnFalse result (0 < length chunks.old → (last_of chunks.old).kind ≡ Bytes → (last_of chunks.old).room < length bytes.now) }
+    ensures apart { OnFalse result (0 < length chunks.old → MERGE_SIZE < weight_of (last_of chunks.old) + length bytes.now) }
+    ensures last { OnTrue result (length bytes.now ≤ weight_of (last_of chunks.new)) }
+    ensures numbers { numbers chunks.new ≡ numbers chunks.old }
+    ensures pool { FillsOnly pool.old pool.new (max (length bytes.now) MERGE_SIZE) }
+{
+    fill_back(chunks, pool, bytes) || merge_back(chunks, pool, bytes)
 }

@@ -61,7 +61,7 @@ pub trait Queue {
         ensures filled { (stored store.new).filled ≡ (stored store.old).filled }
         ensures kept { Kept (stored store.old) (contents self.old).numbers (stored store.new) (contents self.new).numbers };
 
-    /// Moves everything to the end of this queue. It copies nothing and takes no memory.
+    /// Moves everything to the end of this queue. It takes no memory, and copies the bytes of two chunks at most.
     fn append_all(&mut self, store: &mut Self::Owner, from: &mut Self)
         requires counted { HeldWithin (stored store.old) (length (contents self.old).numbers + length (contents from.old).numbers) }
         requires fits { count_of (contents self.old) + count_of (contents from.old) < 2 ^ 63 }
@@ -70,7 +70,7 @@ pub trait Queue {
         ensures staged { staged_of (contents self.new) ≡
             staged_behind (items_of (contents self.old)) (staged_of (contents self.old)) (staged_of (contents from.old)) }
         ensures dense { dense (contents self.new) × dense (contents from.new) }
-        ensures filled { (stored store.new).filled ≤ (stored store.old).filled + 2 * MERGE_SIZE }
+        ensures filled { (stored store.new).filled ≤ (stored store.old).filled + 2 * BUFFER_SIZE }
         ensures kept { Kept (stored store.old) ((contents self.old).numbers ++ (contents from.old).numbers)
             (stored store.new) (contents self.new).numbers };
 
@@ -88,7 +88,7 @@ pub trait Queue {
         ensures rest { OnOk result (0 < n → staged_of (contents from.new) ≡ []) }
         ensures spare { min (min n (count_of (contents from.old) - n)) 1 ≤ length (stored store.old).free → IsOk result }
         ensures dense { dense (contents self.new) × dense (contents from.new) }
-        ensures filled { (stored store.new).filled ≤ (stored store.old).filled + BUFFER_SIZE + 2 * MERGE_SIZE }
+        ensures filled { (stored store.new).filled ≤ (stored store.old).filled + 3 * BUFFER_SIZE }
         ensures kept { Kept (stored store.old) ((contents self.old).numbers ++ (contents from.old).numbers)
             (stored store.new) ((contents self.new).numbers ++ (contents from.new).numbers) };
 

@@ -4,12 +4,11 @@ ghost use Rattle.buffer_pool.specs.Edits.{first_of};
 ghost use Rattle.buffer_pool.specs.Kept.{numbers, Kept, HeldWithin};
 ghost use Rattle.buffer_pool.specs.declared.buffer.Kind.TheVariants.{Bytes, File};
 ghost use Rattle.chunkqueue.specs.Plain.{segment_left};
-ghost use Rattle.chunkqueue.specs.Pooled.{AreKept, CanFollow, Gains, IsCut, segment_of, items_of_chunks, staged_of_chunks};
+ghost use Rattle.chunkqueue.specs.Pooled.{AreKept, CanFollow, Gains, Moved, segment_of, items_of_chunks, staged_of_chunks};
 
 use crate::advancing::front_kind;
 use crate::appending::{append_piece, append_range};
 use crate::joining::{append_chunks, unstage};
-use crate::merging::MERGE_SIZE;
 use buffer_pool::{BUFFER_SIZE, ChunkList, Kind, Pool};
 
 /// Moves the first `n` items of `from` behind the others. Where a chunk is split there is a spare one.
@@ -25,36 +24,38 @@ pub(crate) fn steal_chunks(chunks: &mut ChunkList, pool: &mut Pool, from: &mut C
     ensures items { items_of_chunks chunks.new ≡ items_of_chunks chunks.old ++ take n (items_of_chunks from.old) }
     ensures left { items_of_chunks from.new ≡ drop n (items_of_chunks from.old) }
     ensures staged { staged_of_chunks chunks.new ≡ staged_of_chunks chunks.old }
-    ensures filled { pool.new.filled ≤ pool.old.filled + BUFFER_SIZE + 2 * MERGE_SIZE }
+    ensures filled { pool.new.filled ≤ pool.old.filled + 3 * BUFFER_SIZE }
     ensures kept { Kept pool.old (numbers chunks.old ++ numbers from.old) pool.new (numbers chunks.new ++ numbers from.new) }
 {
     unstage(from);
-    let mut front = split(pool, from, n);
-    append_chunks(chunks, pool, &mut front);
-    front.close();
+    let left = steal_whole(chunks, pool, from, n);
+    if left > 0 {
+        split_front(chunks, pool, from, left);
+    }
 }
 
-// The first `n` items as a list of their own.
-fn split(pool: &mut Pool, from: &mut ChunkList, n: u64) -> ChunkList
+// Moves the chunks that lie whole in the first `n` items behind the others, and answers how many of these items are still
+// to be moved.
+fn steal_whole(chunks: &mut ChunkList, pool: &mut Pool, from: &mut ChunkList, n: u64) -> u64
+    requires kept { AreKept chunks.old }
     requires follows { CanFollow from.old }
-    requires within { n ≤ length (items_of_chunks from.old) }
-    requires countable { length from.old + 1 < 2 ^ 64 }
-    requires spare { n < length (items_of_chunks from.old) → 0 < length pool.old.free }
-    ensures cut { IsCut from.old result from.new n }
-    ensures len { length result ≤ length from.old + 1 }
-    ensures filled { pool.new.filled ≤ pool.old.filled + BUFFER_SIZE }
-    ensures kept { Kept pool.old (numbers from.old) pool.new (numbers result ++ numbers from.new) }
+    requires countable { length chunks.old + length from.old < 2 ^ 64 }
+    requires counted { HeldWithin pool.old (length (numbers chunks.old) + length (numbers from.old)) }
+    ensures moved { Moved chunks.old from.old chunks.new from.new n result }
+    ensures inside { 0 < length from.new → result < segment_left (segment_of (first_of from.new)) }
+    ensures len { length chunks.new + length from.new ≤ length chunks.old + length from.old }
+    ensures spare { length pool.old.free ≤ length pool.new.free }
+    ensures filled { pool.new.filled ≤ pool.old.filled + 2 * BUFFER_SIZE }
+    ensures kept { Kept pool.old (numbers chunks.old ++ numbers from.old) pool.new (numbers chunks.new ++ numbers from.new) }
 {
     let mut front = ChunkList::new();
     let left = move_whole(&mut front, from, n);
-    if left > 0 {
-        split_front(&mut front, pool, from, left);
-        return front;
-    }
-    front
+    append_chunks(chunks, pool, &mut front);
+    front.close();
+    left
 }
 
-// Moves the chunks that lie whole in the first `n` items, and answers how many of these items are still to be moved.
+// Moves these chunks into a list of their own.
 fn move_whole(front: &mut ChunkList, from: &mut ChunkList, n: u64) -> u64
     requires follows { CanFollow from.old }
     requires countable { length front.old + length from.old < 2 ^ 64 }
@@ -93,29 +94,29 @@ fn move_chunk(front: &mut ChunkList, from: &mut ChunkList)
     }
 }
 
-// Moves the first `n` items, which are fewer than the first chunk has.
-fn split_front(front: &mut ChunkList, pool: &mut Pool, from: &mut ChunkList, n: u64)
-    requires kept { AreKept front.old }
+// Moves the first `n` items, which are fewer than the first chunk has, behind the others.
+fn split_front(chunks: &mut ChunkList, pool: &mut Pool, from: &mut ChunkList, n: u64)
+    requires kept { AreKept chunks.old }
     requires follows { CanFollow from.old }
     requires some { 0 < n }
     requires first { 0 < length from.old }
     requires inside { n < segment_left (segment_of (first_of from.old)) }
     requires spare { 0 < length pool.old.free }
-    requires countable { length front.old + 1 < 2 ^ 64 }
-    ensures gains { Gains front.old front.new (take n (items_of_chunks from.old)) }
+    requires countable { length chunks.old + 1 < 2 ^ 64 }
+    ensures gains { Gains chunks.old chunks.new (take n (items_of_chunks from.old)) }
     ensures rest { CanFollow from.new }
     ensures left { items_of_chunks from.new ≡ drop n (items_of_chunks from.old) }
     ensures numbers { numbers from.new ≡ numbers from.old }
-    ensures len { length front.new ≤ length front.old + 1 }
+    ensures len { length chunks.new ≤ length chunks.old + 1 }
     ensures filled { pool.new.filled ≤ pool.old.filled + BUFFER_SIZE }
-    ensures kept { Kept pool.old (numbers front.old) pool.new (numbers front.new) }
+    ensures kept { Kept pool.old (numbers chunks.old) pool.new (numbers chunks.new) }
 {
     match front_kind(from) {
         Kind::Bytes => {
-            append_piece(front, pool, first_bytes(from, n));
+            append_piece(chunks, pool, first_bytes(from, n));
             from.drop_from_front(n as usize);
         }
-        Kind::File { file, start, len } => match append_range(front, pool, file, start, n) {
+        Kind::File { file, start, len } => match append_range(chunks, pool, file, start, n) {
             Ok(()) => from.set_front(file, start + n, len - n),
             Err(_) => unreachable!(),
         },

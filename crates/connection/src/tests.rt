@@ -359,6 +359,60 @@ fn so_many_bytes_are_held(rt: HostRuntime) {
     closed(&rt, conn, store, None);
 }
 
+// The content has so many bytes, and lies in buffers of a quarter more at most.
+fn carries_densely(rt: &impl Abort, conn: &mut Conn, store: &mut Store, size: u64)
+    requires { HeldWithin store.old (length conn.old.numbers) }
+    ensures { HeldWithin store.new (length conn.new.numbers) }
+{
+    match conn.advance(store) {
+        Ok(Stage::Whole) => {}
+        _ => {
+            assert!(rt; false);
+            return;
+        }
+    }
+    let mut content = Chunks::new();
+    conn.take_body(store, &mut content);
+    let (buffers, held) = (content.nodes(), content.len());
+    content.close(store);
+    assert!(rt; held == size && buffers < 10_000 && buffers * 4_096 <= held + held / 4);
+}
+
+#[test]
+fn reads_go_on_once_the_bytes_that_are_held_are_taken(rt: HostRuntime) {
+    let (mut store, mut conn) = client(rt.alloc());
+    sent(
+        &rt,
+        &mut conn,
+        &mut store,
+        b"GET / HTTP/1.1\r\nHost: h\r\n\r\n",
+    );
+    accepted(&rt, &mut conn, &mut store, 8);
+    stands(&rt, &mut conn, &mut store, Stage::Whole);
+    sent(
+        &rt,
+        &mut conn,
+        &mut store,
+        b"POST / HTTP/1.1\r\nHost: h\r\nContent-Length: 69632\r\n\r\n",
+    );
+    for _ in 0..15 {
+        sent(&rt, &mut conn, &mut store, &[b'a'; 4_096]);
+    }
+    let left = conn.room();
+    assert!(&rt; left < 4_096);
+    sent(&rt, &mut conn, &mut store, &[b'a'; 4_096][..left]);
+    assert!(&rt; conn.room() == 0);
+    answered(&rt, &mut conn, &mut store, false);
+    took(&rt, &mut conn, &mut store, b"head", None);
+    accepted(&rt, &mut conn, &mut store, 69_632);
+    stands(&rt, &mut conn, &mut store, Stage::Waiting);
+    assert!(&rt; conn.room() == INPUT_LIMIT);
+    sent(&rt, &mut conn, &mut store, &[b'a'; 4_096]);
+    sent(&rt, &mut conn, &mut store, &[b'a'; 4_096][left..]);
+    carries_densely(&rt, &mut conn, &mut store, 69_632);
+    closed(&rt, conn, store, None);
+}
+
 #[test]
 fn a_client_that_ended_sends_nothing_more(rt: HostRuntime) {
     let (mut store, mut conn) = client(rt.alloc());

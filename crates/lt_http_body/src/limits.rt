@@ -1,5 +1,5 @@
 //! The limits on the chunked form.
-use chunkqueue::{BUFFER_SIZE, MERGE_SIZE};
+use chunkqueue::BUFFER_SIZE;
 
 /// The most hexadecimal digits that a chunk's size may have.
 pub const SIZE_DIGITS: u32 = 15;
@@ -11,4 +11,4 @@ pub const EXTENSION_LIMIT: u32 = 256;
 pub const TRAILER_LIMIT: u32 = 8_192;
 
 /// How many bytes at most are copied into buffers where the first items of a queue go behind another.
-pub const FILLED_BY_STEAL: usize = BUFFER_SIZE + 2 * MERGE_SIZE;
+pub const FILLED_BY_STEAL: usize = 3 * BUFFER_SIZE;

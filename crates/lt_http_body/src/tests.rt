@@ -26,7 +26,7 @@ fn fed(
     ensures held { HeldWithin store.new (length body.new.numbers) }
 {
     let mut input = Chunks::new();
-    assert!(rt; bytes.len() < 100_000 && body.len() < 100_000);
+    assert!(rt; bytes.len() < 100_000 && body.len() < 10_000_000);
     assert!(rt; input.push_bytes(store, bytes).is_ok());
     let answer = reader.feed(store, &mut input, body);
     let left = input.len();
@@ -210,4 +210,62 @@ fn stated(rt: &impl Abort, store: &mut Store, n: u64, limit: u64, bytes: &[u8]) 
     ensures { HeldWithin store.new 0 }
 {
     answered(rt, store, Framing::Length(n), limit, bytes)
+}
+
+/// So much comes with one read.
+const READ: usize = 4_096;
+
+// What comes with a read, where the same bytes come again and again and these were read before it.
+fn read_of(cycle: &[u8], before: usize) -> [u8; READ]
+    requires some { 0 < length cycle.now }
+    requires few { before ≤ 2000000 }
+{
+    let mut read = [0; READ];
+    for (place, byte) in read.iter_mut().enumerate() {
+        *byte = cycle[(before + place) % cycle.len()];
+    }
+    read
+}
+
+// In how many buffers the data lies that comes with so many reads, and how many bytes it has.
+fn held(
+    rt: &impl Abort,
+    store: &mut Store,
+    framing: Framing,
+    cycle: &[u8],
+    reads: usize,
+) -> (u64, u64)
+    requires held { HeldWithin store.old 0 }
+    requires some { 0 < length cycle.now }
+    requires few { reads ≤ 256 }
+    ensures held { HeldWithin store.new 0 }
+{
+    let mut reader = Body::new(framing, NO_LIMIT);
+    let mut body = Chunks::new();
+    for round in 0..reads {
+        let read = read_of(cycle, round * READ);
+        let (answer, left) = fed(rt, store, &mut reader, &mut body, &read);
+        assert!(rt; answer.is_ok() && left == 0);
+    }
+    let counts = (body.nodes(), body.len());
+    body.close(store);
+    counts
+}
+
+#[test]
+fn a_held_body_takes_a_quarter_more_than_its_size_at_most(rt: HostRuntime) {
+    let mut store = Store::new(rt.alloc());
+    let (buffers, size) = held(&rt, &mut store, Framing::Length(MIB), b"x", 256);
+    assert!(&rt; (buffers, size) == (256, MIB));
+    let mut chunk = [b'x'; 4_104];
+    chunk[..6].copy_from_slice(b"1000\r\n");
+    chunk[4_102..].copy_from_slice(b"\r\n");
+    let (buffers, size) = held(&rt, &mut store, Framing::Chunked, &chunk, 256);
+    // 255 whole chunks, of which each has 8 bytes of framing, and one of which 2 are still to come.
+    assert!(&rt; size == MIB - 255 * 8 - 6);
+    assert!(&rt; buffers < 10_000 && buffers * 4_096 <= size + size / 4);
+    // Chunks of one byte: each byte goes into the last buffer, so no buffer but the last has room left.
+    let (buffers, size) = held(&rt, &mut store, Framing::Chunked, b"1\r\nx\r\n", 64);
+    assert!(&rt; (buffers, size) == (11, 43_691));
+    store.close();
 }

@@ -306,3 +306,7 @@ same_head g h o a b = let s : Some g ≡ Some h = a ∙ b in cc (s)
 
 pub form_at : (form : Form) (j k : ℕ) (g h : Head) → form ≡ form_of j g → j ≡ k → g ≡ h → form ≡ form_of k h
 form_at form j k g h is number head = is ∙ (λ i. form_of (number i) (head i))
+
+-- what another call gave is given back at once
+pub kept_closed : (p q r : PoolState) (g l m : List ℕ) → Kept p g q (l ++ m) → Kept q m r [] → Kept p g r l
+kept_closed p q r g l m one two = subst (λ (k : List ℕ). Kept p g r k) (append-nil l) (kept_both p q r g (l ++ m) (l ++ []) one (kept_beside q r l m [] two))

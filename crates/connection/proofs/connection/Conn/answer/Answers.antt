@@ -41,6 +41,6 @@ returns-clause-ok c =
 
 pub returns-clause-kept : goal.returns-clause-kept
 returns-clause-kept c =
-    answer_kept c.args.store.now c.push_bytes.new.store c.append_all.new._store c.empty_into.new._store c.args.self.now.numbers c.self.inside.input.numbers c.self.inside.body.numbers c.self.inside.output.numbers c.args.body.now.numbers
+    answer_kept c.args.store.now c.push_bytes.new.store c.append_all.new.store c.empty_into.new.store c.args.self.now.numbers c.self.inside.input.numbers c.self.inside.body.numbers c.self.inside.output.numbers c.args.body.now.numbers
     c.push_bytes.new.self.numbers c.append_all.new.self.numbers c.append_all.new.from.numbers c.empty_into.new.self.numbers (ap (λ (x : Connected). x.numbers) c.self.view_is) c.push_bytes.ensures.kept c.append_all.ensures.kept
     (ap (λ (q : Contents). q.numbers) c.append_all.ensures.from) c.empty_into.ensures.kept (ap (λ (q : Contents). q.numbers) c.empty_into.ensures.empty)

@@ -17,4 +17,4 @@ invariant_of-self g c = record {
 
 pub returns-clause-kept : goal.returns-clause-kept
 returns-clause-kept g c =
-    third_kept c.args.store.now c.stage.new._store c.args.self.now.numbers c.self.inside.input.numbers c.self.inside.body.numbers c.self.inside.output.numbers c.stage.new.self.numbers (ap (λ (x : Connected). x.numbers) c.self.view_is) c.stage.ensures.kept
+    third_kept c.args.store.now c.stage.new.store c.args.self.now.numbers c.self.inside.input.numbers c.self.inside.body.numbers c.self.inside.output.numbers c.stage.new.self.numbers (ap (λ (x : Connected). x.numbers) c.self.view_is) c.stage.ensures.kept

@@ -15,5 +15,5 @@ returns-clause-moved c =
 
 pub returns-clause-kept : goal.returns-clause-kept
 returns-clause-kept c =
-    taken_kept c.args.store.now c.append_all.new._store c.args.self.now.numbers c.self.inside.input.numbers c.self.inside.body.numbers c.self.inside.output.numbers c.args.into.now.numbers c.append_all.new.from.numbers
+    taken_kept c.args.store.now c.append_all.new.store c.args.self.now.numbers c.self.inside.input.numbers c.self.inside.body.numbers c.self.inside.output.numbers c.args.into.now.numbers c.append_all.new.from.numbers
     c.append_all.new.self.numbers (ap (λ (x : Connected). x.numbers) c.self.view_is) c.append_all.ensures.kept (ap (λ (q : Contents). q.numbers) c.append_all.ensures.from)
