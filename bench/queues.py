@@ -7,59 +7,32 @@ of 4,096 bytes with its take costs more than twice the instructions of copying t
 
 Build first: cd crates/bench_queues && rt run -- 3 2 1 100
 """
-import os
-import re
-import subprocess
 import sys
-import tempfile
 
-ROOT = os.path.dirname(os.path.dirname(os.path.abspath(__file__)))
-PROGRAM = os.path.join(ROOT, "crates", "bench_queues", "out", "bench_queues")
+from measuring import Program
+
 FEW, MANY = 100, 10_100
 CALLS = 1_000_000
 RUNS = 5
 
 
-def arguments(kind, times, size):
+def words(kind, times, size):
     """The words of one run: only one of the three is done."""
     counts = [0, 0, 0]
     counts[kind] = times
-    return [str(word) for word in [*counts, size]]
-
-
-def seconds(words):
-    """Seconds of processor time of one run."""
-    with open(os.devnull, "wb") as sink:
-        child = os.posix_spawn(PROGRAM, [PROGRAM, *words], os.environ, file_actions=[(os.POSIX_SPAWN_DUP2, sink.fileno(), 1)])
-        _, status, usage = os.wait4(child, 0)
-    if status != 0:
-        sys.exit(f"the program ended with {os.waitstatus_to_exitcode(status)}")
-    return usage.ru_utime + usage.ru_stime
-
-
-def instructions(words):
-    """Instructions of one run."""
-    with tempfile.TemporaryDirectory() as folder:
-        told = subprocess.run(
-            ["valgrind", "--tool=callgrind", f"--callgrind-out-file={folder}/out", PROGRAM, *words],
-            capture_output=True,
-            text=True,
-            check=True,
-        )
-    return int(re.search(r"Collected : (\d+)", told.stderr).group(1))
+    return [*counts, size]
 
 
 def main():
-    if not os.path.exists(PROGRAM):
-        sys.exit("build the program first: see the head of this script")
+    program = Program("bench_queues")
     print("push and take                ns   MB/s  instructions  a byte")
     cost = {}
     for size in (64, 4096):
         for kind, name in enumerate(["plain queue", "pooled queue", "copy alone"]):
-            start = min(seconds(arguments(kind, 0, size)) for _ in range(RUNS))
-            whole = min(seconds(arguments(kind, CALLS, size)) for _ in range(RUNS))
-            few = instructions(arguments(kind, FEW, size))
-            many = instructions(arguments(kind, MANY, size))
+            start = program.seconds(RUNS, *words(kind, 0, size))
+            whole = program.seconds(RUNS, *words(kind, CALLS, size))
+            few = program.instructions(*words(kind, FEW, size))
+            many = program.instructions(*words(kind, MANY, size))
             each = (whole - start) / CALLS
             cost[kind, size] = (many - few) / (MANY - FEW)
             print(f"{name:13} {size:5} bytes {each * 1e9:8.0f} {size / each / 1e6:6.0f} {cost[kind, size]:13.0f} {cost[kind, size] / size:7.2f}")
@@ -67,5 +40,4 @@ def main():
         sys.exit("a pooled push costs more than twice a copy")
 
 
-if __name__ == "__main__":
-    main()
+main()

@@ -5,19 +5,17 @@ One shared file of 1 MiB is taken by 1, 16, 64 and 250 clients, interleaved writ
 memory of a taken byte, and how they grow with the clients. Then 10,000 small pipelined requests are answered, as 100
 connections one after another with 100 each, and as 250 connections that are open at once with 40 each, interleaved: the
 time of a request. The time of a script with no clients is taken off. Then bodies of 1 MiB are read, of a stated length and
-in chunks of 100 and of 4,096 bytes, and some of 64 KiB in chunks of 1: the time and the instructions of a byte of content. The time of the same
-script is taken off in which the client never arrives.
+in chunks of 100 and of 4,096 bytes, and some of 64 KiB in chunks of 1: the time and the instructions of a byte of content.
+The time of the same script is taken off in which the client never arrives.
 
 Build first: cd crates/lighttpd && rt run -- replay -f ../../examples/hello.conf ../../examples/hello.script
 """
 import os
-import re
-import subprocess
 import sys
 import tempfile
 
-ROOT = os.path.dirname(os.path.dirname(os.path.abspath(__file__)))
-SERVER = os.path.join(ROOT, "crates", "lighttpd", "out", "lighttpd")
+from measuring import Program
+
 SIZE = 1 << 20
 PIECE = 4096
 # The head is a write of its own.
@@ -74,104 +72,99 @@ def posted(chunk, size, arrives, posts=POSTS):
     return "\n".join(lines) + "\n"
 
 
-def run(conf, path):
-    """Seconds of processor time, and the greatest memory in bytes."""
-    with open(os.devnull, "wb") as sink:
-        child = os.posix_spawn(
-            SERVER,
-            [SERVER, "replay", "-f", conf, path],
-            os.environ,
-            file_actions=[(os.POSIX_SPAWN_DUP2, sink.fileno(), 1)],
+class Replays:
+    """The built server, with a configuration and a script in a folder."""
+
+    def __init__(self, folder):
+        self.server = Program("lighttpd")
+        self.conf = os.path.join(folder, "conf")
+        self.script = os.path.join(folder, "script")
+        with open(self.conf, "w") as f:
+            f.write('server.document-root = "/srv"\n')
+
+    def words(self, text):
+        """The words of a call that replays this script."""
+        with open(self.script, "w") as f:
+            f.write(text)
+        return "replay", "-f", self.conf, self.script
+
+    def runs(self, text, times):
+        """The times of some runs, and the memory of one."""
+        words = self.words(text)
+        runs = [self.server.run(*words) for _ in range(times)]
+        return [seconds for seconds, _ in runs], runs[0][1]
+
+    def best(self, text, times):
+        """The least time of some runs, and the memory of one."""
+        seconds, memory = self.runs(text, times)
+        return min(seconds), memory
+
+    def instructions(self, text):
+        return self.server.instructions(*self.words(text))
+
+
+def time_writes(replays, empty, base):
+    """How the time of a write grows with the clients."""
+    rows = []
+    for clients in CLIENTS:
+        if clients == 1:
+            runs, memory = replays.runs(script(1), REPLAYS_OF_ONE)
+            seconds = sum(runs) / REPLAYS_OF_ONE
+        else:
+            seconds, memory = replays.best(script(clients), 3)
+        rows.append(((seconds - empty) / (clients * WRITES), (memory - base) / (clients * SIZE)))
+        print(
+            f"{clients:4} clients: {seconds * 1000:8.1f} ms, {rows[-1][0] * 1e6:6.2f} us a write, "
+            f"{memory >> 20:5} MiB, {rows[-1][1]:5.2f} bytes a taken byte"
         )
-        _, status, usage = os.wait4(child, 0)
-    if status != 0:
-        sys.exit(f"the server ended with {os.waitstatus_to_exitcode(status)} on {path}")
-    return usage.ru_utime + usage.ru_stime, usage.ru_maxrss * 1024
+    growth = rows[-1][0] / rows[0][0]
+    print(f"time of a write, 250 clients against 1: {growth:.2f}")
+    print(f"memory of a taken byte, 250 clients against 16: {rows[-1][1] / rows[1][1]:.2f}")
+    return growth
 
 
-def instructions(conf, path):
-    """Instructions of one run, by callgrind."""
-    told = subprocess.run(
-        ["valgrind", "--tool=callgrind", f"--callgrind-out-file={path}.calls", SERVER, "replay", "-f", conf, path],
-        capture_output=True,
-        text=True,
-        check=True,
-    )
-    return int(re.search(r"Collected : (\d+)", told.stderr).group(1))
+def time_requests(replays, empty):
+    """The time of a pipelined request, the dearer way against the cheaper."""
+    times = []
+    for connections, at_once in SHAPES:
+        seconds, _ = replays.best(pipelined(connections, at_once), 5)
+        times.append((seconds - empty) / REQUESTS)
+        print(f"{connections} connections, {at_once} at once: {times[-1] * 1e6:6.2f} us a request")
+    ratio = max(times) / min(times)
+    print(f"time of a request, the dearer way against the cheaper: {ratio:.2f}")
+    return ratio
 
 
-def best(conf, path, times):
-    """The least time of some runs, and the memory of one."""
-    runs = [run(conf, path) for _ in range(times)]
-    return min(seconds for seconds, _ in runs), runs[0][1]
+def time_bodies(replays):
+    """The time of a byte of a body in large chunks, against one of a stated length."""
+    times = []
+    for chunk, size in BODIES:
+        texts = [posted(chunk, size, arrives) for arrives in (True, False)]
+        pairs = [[replays.best(text, 1)[0] for text in texts] for _ in range(REPLAYS_OF_BODIES)]
+        read, unread = (min(seconds) for seconds in zip(*pairs))
+        times.append((read - unread) / (POSTS * size))
+        counts = [replays.instructions(posted(chunk, size, arrives, 1)) for arrives in (True, False)]
+        how = "of a stated length" if chunk is None else f"in chunks of {chunk}"
+        print(f"a body {how}: {times[-1] * 1e9:6.2f} ns and {(counts[0] - counts[1]) / size:6.2f} instructions a byte")
+    chunked = times[-1] / times[0]
+    print(f"a byte of a body in large chunks against one of a stated length: {chunked:.2f}")
+    return chunked
 
 
 def main():
-    if not os.path.exists(SERVER):
-        sys.exit("build the server first: see the head of this script")
     with tempfile.TemporaryDirectory() as folder:
-        conf = os.path.join(folder, "conf")
-        with open(conf, "w") as f:
-            f.write('server.document-root = "/srv"\n')
-
-        def replayed(text, times):
-            path = os.path.join(folder, "script")
-            with open(path, "w") as f:
-                f.write(text)
-            return best(conf, path, times)
-
-        def counted(text):
-            path = os.path.join(folder, "script")
-            with open(path, "w") as f:
-                f.write(text)
-            return instructions(conf, path)
-
-        def measured(clients, times):
-            return replayed(script(clients), times)
-
-        empty, base = measured(0, 10)
+        replays = Replays(folder)
+        empty, base = replays.best(script(0), 10)
         print(f"no client: {empty * 1000:.1f} ms, {base >> 20} MiB")
-        rows = []
-        for clients in CLIENTS:
-            if clients == 1:
-                path_runs = [measured(1, 1)[0] for _ in range(REPLAYS_OF_ONE)]
-                seconds = sum(path_runs) / REPLAYS_OF_ONE
-                memory = measured(1, 1)[1]
-            else:
-                seconds, memory = measured(clients, 3)
-            writes = clients * WRITES
-            rows.append((clients, (seconds - empty) / writes, (memory - base) / (clients * SIZE)))
-            print(
-                f"{clients:4} clients: {seconds * 1000:8.1f} ms, {rows[-1][1] * 1e6:6.2f} us a write, "
-                f"{memory >> 20:5} MiB, {rows[-1][2]:5.2f} bytes a taken byte"
-            )
-        growth = rows[-1][1] / rows[0][1]
-        print(f"time of a write, 250 clients against 1: {growth:.2f}")
-        print(f"memory of a taken byte, 250 clients against 16: {rows[-1][2] / rows[1][2]:.2f}")
-        times = []
-        for connections, at_once in SHAPES:
-            seconds, _ = replayed(pipelined(connections, at_once), 5)
-            times.append((seconds - empty) / REQUESTS)
-            print(f"{connections} connections, {at_once} at once: {times[-1] * 1e6:6.2f} us a request")
-        ratio = max(times) / min(times)
-        print(f"time of a request, the dearer way against the cheaper: {ratio:.2f}")
-        bytes_read = []
-        for chunk, size in BODIES:
-            texts = [posted(chunk, size, arrives) for arrives in (True, False)]
-            pairs = [[replayed(text, 1)[0] for text in texts] for _ in range(REPLAYS_OF_BODIES)]
-            read, unread = (min(seconds) for seconds in zip(*pairs))
-            bytes_read.append((read - unread) / (POSTS * size))
-            counts = [counted(posted(chunk, size, arrives, 1)) for arrives in (True, False)]
-            how = "of a stated length" if chunk is None else f"in chunks of {chunk}"
-            print(f"a body {how}: {bytes_read[-1] * 1e9:6.2f} ns and {(counts[0] - counts[1]) / size:6.2f} instructions a byte")
-        chunked = bytes_read[-1] / bytes_read[0]
-        print(f"a byte of a body in large chunks against one of a stated length: {chunked:.2f}")
-        if growth >= 1.5:
-            sys.exit("a write takes half as long again with many clients")
-        if ratio >= 1.5:
-            sys.exit("a request takes half as long again one way than the other")
-        if chunked > 2:
-            sys.exit("a byte of a body in large chunks takes more than twice as long as one of a stated length")
+        growth = time_writes(replays, empty, base)
+        ratio = time_requests(replays, empty)
+        chunked = time_bodies(replays)
+    if growth >= 1.5:
+        sys.exit("a write takes half as long again with many clients")
+    if ratio >= 1.5:
+        sys.exit("a request takes half as long again one way than the other")
+    if chunked > 2:
+        sys.exit("a byte of a body in large chunks takes more than twice as long as one of a stated length")
 
 
 main()

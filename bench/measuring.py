@@ -1,0 +1,42 @@
+"""Runs a program that was built before, and measures it from outside."""
+import os
+import re
+import subprocess
+import sys
+import tempfile
+
+ROOT = os.path.dirname(os.path.dirname(os.path.abspath(__file__)))
+
+
+class Program:
+    """A program of this repository, by the name of its crate."""
+
+    def __init__(self, name):
+        self.path = os.path.join(ROOT, "crates", name, "out", name)
+        if not os.path.exists(self.path):
+            sys.exit("build the program first: see the head of this script")
+
+    def run(self, *words):
+        """Seconds of processor time of one run, and its greatest memory in bytes."""
+        command = [self.path, *map(str, words)]
+        with open(os.devnull, "wb") as sink:
+            child = os.posix_spawn(self.path, command, os.environ, file_actions=[(os.POSIX_SPAWN_DUP2, sink.fileno(), 1)])
+            _, status, usage = os.wait4(child, 0)
+        if status != 0:
+            sys.exit(f"{' '.join(command)} ended with {os.waitstatus_to_exitcode(status)}")
+        return usage.ru_utime + usage.ru_stime, usage.ru_maxrss * 1024
+
+    def seconds(self, runs, *words):
+        """Seconds of processor time: the least of some runs."""
+        return min(self.run(*words)[0] for _ in range(runs))
+
+    def instructions(self, *words):
+        """Instructions of one run, by callgrind."""
+        with tempfile.TemporaryDirectory() as folder:
+            told = subprocess.run(
+                ["valgrind", "--tool=callgrind", f"--callgrind-out-file={folder}/out", self.path, *map(str, words)],
+                capture_output=True,
+                text=True,
+                check=True,
+            )
+        return int(re.search(r"Collected : (\d+)", told.stderr).group(1))
