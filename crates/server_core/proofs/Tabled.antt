@@ -63,6 +63,10 @@ push_kept link peer local conns next new is none pushed table store kept =
       resting = subst AllResting (sym pushed_table) (resting_push (helds conns) new.held (subst IsResting (sym is) (arrived_rests link peer local)) kept.resting);
     }
 
+-- the connection that is lent of a client
+pub lent_at : (conns : List Connected) (i : ℕ) (client conn : Connected) → conn ≡ client → client ≡ get_or conns i client → conn ≡ get_or conns i conn
+lent_at conns i client conn same at = subst (λ (k : Connected). k ≡ get_or conns i k) (sym same) at
+
 -- the client that is to be closed, taken out of the list
 pub taken_is : (conns : List Connected) (i : ℕ) (closing taken : Connected) → i < length conns → taken ≡ get_or (set conns i closing) i taken → taken ≡ closing
 taken_is conns i closing taken below is = is ∙ get_or-set_same conns i closing taken below

@@ -1,3 +1,4 @@
+pub mod Client
 pub mod Form
 pub mod Planned
 pub mod Steps

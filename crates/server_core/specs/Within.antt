@@ -4,7 +4,7 @@ use Rattle.server_core.specs.Table.{serving, IsKept}
 use Rattle.server_core.specs.declared.server.Server.TheInside.{Inside}
 
 abbrev pub serving_of : Inside → Serving
-serving_of s = serving s.site.root s.conns.items
+serving_of s = serving s.site.root s.clients.items
 
 abbrev pub IsServer : Inside → Type 0
-IsServer s = IsKept s.store s.conns.items
+IsServer s = IsKept s.store s.clients.items

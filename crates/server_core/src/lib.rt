@@ -5,6 +5,7 @@
 //! Closing is explicit: a server can't be dropped.
 #![tactic(auto)]
 
+mod client;
 mod form;
 mod plan;
 mod replies;

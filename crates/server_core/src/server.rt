@@ -9,13 +9,13 @@ ghost use Rattle.server_core.specs.Steps.{seen_as};
 ghost use Rattle.server_core.specs.Table.{helds, held_count, all_freed};
 ghost use Rattle.server_core.specs.Turns.{Turned, OnRest, KindFits, Uses};
 
+use crate::client::Client;
 use crate::replies::Replies;
 use crate::site::Site;
 use crate::step::release;
 use crate::table::{accept_on, read_on, write_on};
 use crate::turn::Turn;
 use chunkqueue::Store;
-use connection::Conn;
 use lt_bytes::{NoMemory, Text};
 use lt_world::{Event, Files, Net};
 use std::alloc::Global;
@@ -24,7 +24,7 @@ use std::marker::Model;
 /// A server: what it serves, and the clients that are open. It must be closed: it can't be dropped.
 pub struct Server {
     site: Site,
-    conns: Vec<Conn>,
+    clients: Vec<Client>,
     store: Store,
 }
 
@@ -55,7 +55,7 @@ impl Server {
                 root,
                 replies: Replies::new(alloc)?,
             },
-            conns: Vec::new(alloc),
+            clients: Vec::new(alloc),
             store: Store::new(alloc),
         })
     }
@@ -89,12 +89,21 @@ impl Server {
     {
         match net.next() {
             Event::Arrived { link, peer, local } => {
-                accept_on(&mut self.conns, &self.site, net, files, link, peer, local);
+                accept_on(
+                    &mut self.clients,
+                    &self.site,
+                    &mut self.store,
+                    net,
+                    files,
+                    link,
+                    peer,
+                    local,
+                );
                 Turn::Did
             }
             Event::Readable(link) => {
                 read_on(
-                    &mut self.conns,
+                    &mut self.clients,
                     &self.site,
                     &mut self.store,
                     net,
@@ -105,7 +114,7 @@ impl Server {
             }
             Event::Writable(link) => {
                 write_on(
-                    &mut self.conns,
+                    &mut self.clients,
                     &self.site,
                     &mut self.store,
                     net,
@@ -132,25 +141,25 @@ impl Server {
     {
         let Server {
             site: _,
-            mut conns,
+            mut clients,
             mut store,
         } = self;
-        give_back(&mut conns, &mut store, files);
-        conns.destroy_empty();
+        give_back(&mut clients, &mut store, files);
+        clients.destroy_empty();
         store.close();
     }
 }
 
 // Gives back what the clients keep, and leaves none.
-fn give_back<F: Files>(conns: &mut Vec<Conn>, store: &mut Store, files: &mut F)
-    requires { HeldWithin store.old (held_count conns.old.items) }
-    ensures empty { conns.new.items ≡ [] }
-    ensures disk { F.tells → F.disk files.new ≡ all_freed (helds conns.old.items) (F.disk files.old) }
+fn give_back<F: Files>(clients: &mut Vec<Client>, store: &mut Store, files: &mut F)
+    requires { HeldWithin store.old (held_count clients.old.items) }
+    ensures empty { clients.new.items ≡ [] }
+    ensures disk { F.tells → F.disk files.new ≡ all_freed (helds clients.old.items) (F.disk files.old) }
     ensures faults { F.faults files.old ≤ F.faults files.new }
     ensures failed_read { F.tells → F.failed_read files.new ≡ F.failed_read files.old }
     ensures later { F.later files.old files.new }
 {
-    while let Some(conn) = conns.pop() {
-        release(conn, store, files);
+    while let Some(client) = clients.pop() {
+        release(client.into_conn(), store, files);
     }
 }

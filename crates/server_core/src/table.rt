@@ -1,6 +1,5 @@
 //! The table of clients, in the order of their links, and what each event of a link does in it.
 ghost use Rattle.std.specs.Prelude.{◌≡◌, ◌≤◌, ◌<◌};
-ghost use Rattle.buffer_pool.specs.State.{PoolState};
 ghost use Rattle.lt_world.specs.Trace.{Accepted, Readable, Writable};
 ghost use Rattle.server_model.specs.Held.{IsPlace};
 ghost use Rattle.server_model.specs.Files.{IsTable, Backs};
@@ -8,6 +7,7 @@ ghost use Rattle.server_model.specs.Turns.{TurnsOn};
 ghost use Rattle.server_core.specs.Steps.{seen_as};
 ghost use Rattle.server_core.specs.Table.{helds, serving, Rising, IsKept};
 
+use crate::client::Client;
 use crate::site::Site;
 use crate::step::{finish, read_for, write_for};
 use chunkqueue::{BUFFER_SIZE, Store};
@@ -18,15 +18,15 @@ use lt_world::{Address, Ending, Files, Link, Net};
 const CONNECTION_LIMIT: usize = 256;
 
 // The place of a link, found without a look at every client.
-fn place(conns: &[Conn], link: Link) -> Option<usize>
-    requires { Rising (helds conns.now) }
-    ensures { IsPlace link.0 (helds conns.now) result }
+fn place(clients: &[Client], link: Link) -> Option<usize>
+    requires { Rising (helds clients.now) }
+    ensures { IsPlace link.0 (helds clients.now) result }
 {
     let mut low = 0;
-    let mut high = conns.len();
+    let mut high = clients.len();
     while low < high {
         let middle = low + (high - low) / 2;
-        let here = conns[middle].link().0;
+        let here = clients[middle].link().0;
         if here == link.0 {
             return Some(middle);
         }
@@ -41,8 +41,9 @@ fn place(conns: &[Conn], link: Link) -> Option<usize>
 
 /// A client arrives. It is closed at once where the limit is reached, or where there is no memory to keep it.
 pub(crate) fn accept_on<N: Net, F: Files>(
-    conns: &mut Vec<Conn>,
+    clients: &mut Vec<Client>,
     site: &Site,
+    store: &mut Store,
     net: &mut N,
     files: &F,
     link: Link,
@@ -51,14 +52,15 @@ pub(crate) fn accept_on<N: Net, F: Files>(
 )
     requires calls { 0 < N.calls net.old }
     requires known { link.0 < N.links net.old }
-    requires table { IsTable link.0 (helds conns.old.items) }
-    requires backs { F.tells → Backs (F.disk files.now).table (helds conns.old.items) }
-    ensures turn { TurnsOn (Accepted peer local) link.0 (serving site.now.root conns.old.items) (serving site.now.root conns.new.items) N.tells F.tells
+    requires kept { IsKept store.old clients.old.items }
+    requires table { IsTable link.0 (helds clients.old.items) }
+    requires backs { F.tells → Backs (F.disk files.now).table (helds clients.old.items) }
+    ensures turn { TurnsOn (Accepted peer local) link.0 (serving site.now.root clients.old.items) (serving site.now.root clients.new.items) N.tells F.tells
         (seen_as (F.disk files.now) (F.faults files.now) (F.failed_read files.now)) (seen_as (F.disk files.now) (F.faults files.now) (F.failed_read files.now))
         (N.trace net.old) (N.trace net.new) }
-    ensures kept { (store : PoolState) → IsKept store conns.old.items → IsKept store conns.new.items }
-    ensures table { IsTable (N.links net.new) (helds conns.new.items) }
-    ensures backs { F.tells → Backs (F.disk files.now).table (helds conns.new.items) }
+    ensures kept { IsKept store.new clients.new.items }
+    ensures table { IsTable (N.links net.new) (helds clients.new.items) }
+    ensures backs { F.tells → Backs (F.disk files.now).table (helds clients.new.items) }
     ensures net_faults { N.faults net.old ≤ N.faults net.new }
     ensures wait_faults { N.wait_faults net.new ≡ N.wait_faults net.old }
     ensures last { N.last net.new ≡ N.last net.old }
@@ -66,20 +68,26 @@ pub(crate) fn accept_on<N: Net, F: Files>(
     ensures net_later { N.later net.old net.new }
 {
     let _ = files;
-    if conns.len() >= CONNECTION_LIMIT {
+    if clients.len() >= CONNECTION_LIMIT {
         net.close(link, Ending::Full);
         return;
     }
-    let Ok(()) = conns.reserve(1) else {
+    let Ok(()) = clients.reserve(1) else {
         net.close(link, Ending::NoMemory);
         return;
     };
-    conns.push_reserved(Conn::new(site.alloc, link, peer, local));
+    match Client::new(site.alloc, Conn::new(site.alloc, link, peer, local)) {
+        Ok(client) => clients.push_reserved(client),
+        Err(conn) => {
+            let _no_file = conn.close(store);
+            net.close(link, Ending::NoMemory);
+        }
+    }
 }
 
 /// A client may be read from.
 pub(crate) fn read_on<N: Net, F: Files>(
-    conns: &mut Vec<Conn>,
+    clients: &mut Vec<Client>,
     site: &Site,
     store: &mut Store,
     net: &mut N,
@@ -89,14 +97,14 @@ pub(crate) fn read_on<N: Net, F: Files>(
     requires calls { 1 < N.calls net.old }
     requires room { BUFFER_SIZE ≤ N.room net.old }
     requires known { link.0 < N.links net.old }
-    requires kept { IsKept store.old conns.old.items }
-    requires backs { F.tells → Backs (F.disk files.old).table (helds conns.old.items) }
-    ensures turn { TurnsOn Readable link.0 (serving site.now.root conns.old.items) (serving site.now.root conns.new.items) N.tells F.tells
+    requires kept { IsKept store.old clients.old.items }
+    requires backs { F.tells → Backs (F.disk files.old).table (helds clients.old.items) }
+    ensures turn { TurnsOn Readable link.0 (serving site.now.root clients.old.items) (serving site.now.root clients.new.items) N.tells F.tells
         (seen_as (F.disk files.old) (F.faults files.old) (F.failed_read files.old)) (seen_as (F.disk files.new) (F.faults files.new) (F.failed_read files.new))
         (N.trace net.old) (N.trace net.new) }
-    ensures kept { IsKept store.new conns.new.items }
-    ensures table { IsTable (N.links net.old) (helds conns.old.items) → IsTable (N.links net.new) (helds conns.new.items) }
-    ensures backs { F.tells → Backs (F.disk files.new).table (helds conns.new.items) }
+    ensures kept { IsKept store.new clients.new.items }
+    ensures table { IsTable (N.links net.old) (helds clients.old.items) → IsTable (N.links net.new) (helds clients.new.items) }
+    ensures backs { F.tells → Backs (F.disk files.new).table (helds clients.new.items) }
     ensures net_faults { N.faults net.old ≤ N.faults net.new }
     ensures wait_faults { N.wait_faults net.new ≡ N.wait_faults net.old }
     ensures last { N.last net.new ≡ N.last net.old }
@@ -105,19 +113,19 @@ pub(crate) fn read_on<N: Net, F: Files>(
     ensures faults { F.faults files.old ≤ F.faults files.new }
     ensures later { F.later files.old files.new }
 {
-    let Some(i) = place(conns, link) else {
+    let Some(i) = place(clients, link) else {
         return;
     };
-    let conn = &mut conns[i];
-    let Some(ending) = read_for(conn, site, store, net, files) else {
+    let client = &mut clients[i];
+    let Some(ending) = read_for(client.conn_mut(), site, store, net, files) else {
         return;
     };
-    finish(conns.remove(i), store, net, files, ending);
+    finish(clients.remove(i).into_conn(), store, net, files, ending);
 }
 
 /// A client may be written to.
 pub(crate) fn write_on<N: Net, F: Files>(
-    conns: &mut Vec<Conn>,
+    clients: &mut Vec<Client>,
     site: &Site,
     store: &mut Store,
     net: &mut N,
@@ -127,14 +135,14 @@ pub(crate) fn write_on<N: Net, F: Files>(
     requires calls { 1 < N.calls net.old }
     requires room { BUFFER_SIZE ≤ N.room net.old }
     requires known { link.0 < N.links net.old }
-    requires kept { IsKept store.old conns.old.items }
-    requires backs { F.tells → Backs (F.disk files.old).table (helds conns.old.items) }
-    ensures turn { TurnsOn Writable link.0 (serving site.now.root conns.old.items) (serving site.now.root conns.new.items) N.tells F.tells
+    requires kept { IsKept store.old clients.old.items }
+    requires backs { F.tells → Backs (F.disk files.old).table (helds clients.old.items) }
+    ensures turn { TurnsOn Writable link.0 (serving site.now.root clients.old.items) (serving site.now.root clients.new.items) N.tells F.tells
         (seen_as (F.disk files.old) (F.faults files.old) (F.failed_read files.old)) (seen_as (F.disk files.new) (F.faults files.new) (F.failed_read files.new))
         (N.trace net.old) (N.trace net.new) }
-    ensures kept { IsKept store.new conns.new.items }
-    ensures table { IsTable (N.links net.old) (helds conns.old.items) → IsTable (N.links net.new) (helds conns.new.items) }
-    ensures backs { F.tells → Backs (F.disk files.new).table (helds conns.new.items) }
+    ensures kept { IsKept store.new clients.new.items }
+    ensures table { IsTable (N.links net.old) (helds clients.old.items) → IsTable (N.links net.new) (helds clients.new.items) }
+    ensures backs { F.tells → Backs (F.disk files.new).table (helds clients.new.items) }
     ensures net_faults { N.faults net.old ≤ N.faults net.new }
     ensures wait_faults { N.wait_faults net.new ≡ N.wait_faults net.old }
     ensures last { N.last net.new ≡ N.last net.old }
@@ -143,12 +151,12 @@ pub(crate) fn write_on<N: Net, F: Files>(
     ensures faults { F.faults files.old ≤ F.faults files.new }
     ensures later { F.later files.old files.new }
 {
-    let Some(i) = place(conns, link) else {
+    let Some(i) = place(clients, link) else {
         return;
     };
-    let conn = &mut conns[i];
-    let Some(ending) = write_for(conn, site, store, net, files) else {
+    let client = &mut clients[i];
+    let Some(ending) = write_for(client.conn_mut(), site, store, net, files) else {
         return;
     };
-    finish(conns.remove(i), store, net, files, ending);
+    finish(clients.remove(i).into_conn(), store, net, files, ending);
 }
