@@ -4,7 +4,8 @@
 One shared file of 1 MiB is taken by 1, 16, 64 and 250 clients, interleaved write by write: the time of a write, the
 memory of a taken byte, and how they grow with the clients. Then 10,000 small pipelined requests are answered, as 100
 connections one after another with 100 each, and as 250 connections that are open at once with 40 each, interleaved: the
-time of a request. The time of a script with no clients is taken off. Then bodies of 1 MiB are read, of a stated length and
+time of a request. Then 256 connections that are open at once end, the oldest first or the newest first: the time of a
+connection. The time of a script with no clients is taken off. Then bodies of 1 MiB are read, of a stated length and
 in chunks of 100 and of 4,096 bytes, and some of 64 KiB in chunks of 1: the time and the instructions of a byte of content.
 The time of the same script is taken off in which the client never arrives.
 
@@ -25,6 +26,8 @@ REPLAYS_OF_ONE = 16
 REQUESTS = 10_000
 # Connections, and how many of them are open at once.
 SHAPES = [(100, 1), (250, 250)]
+ENDINGS = 100
+OPEN = 256
 # The bytes of a chunk, and those of the body's content.
 BODIES = [(None, SIZE), (1, SIZE >> 4), (100, SIZE), (PIECE, SIZE)]
 POSTS = 8
@@ -52,6 +55,16 @@ def pipelined(connections, at_once):
         lines += [f'data c{k} "{request}"' for k in group] * each
         lines += [f"take c{k} {PIECE} 1" for k in group] * (2 * each)
         lines += [f"end c{k}" for k in group]
+    return "\n".join(lines) + "\n"
+
+
+def ended(newest_first):
+    """Connections that are open at once, and end one after another, again and again."""
+    lines = ["lighttpd-script 1"]
+    for first in range(0, ENDINGS * OPEN, OPEN):
+        group = range(first, first + OPEN)
+        lines += ["accept 10.0.0.5:40000 127.0.0.1:80"] * OPEN
+        lines += [f"end c{k}" for k in (reversed(group) if newest_first else group)]
     return "\n".join(lines) + "\n"
 
 
@@ -135,6 +148,18 @@ def time_requests(replays, empty):
     return ratio
 
 
+def time_endings(replays, empty):
+    """The time of a connection among many, where the oldest end first against the newest."""
+    times = []
+    for newest_first in (False, True):
+        seconds, _ = replays.best(ended(newest_first), 10)
+        times.append((seconds - empty) / (ENDINGS * OPEN))
+        print(f"{OPEN} connections, the {'newest' if newest_first else 'oldest'} ends first: {times[-1] * 1e6:6.2f} us a connection")
+    ratio = times[0] / times[1]
+    print(f"time of a connection, the oldest ends first against the newest: {ratio:.2f}")
+    return ratio
+
+
 def time_bodies(replays):
     """The time of a byte of a body in large chunks, against one of a stated length."""
     times = []
@@ -158,11 +183,14 @@ def main():
         print(f"no client: {empty * 1000:.1f} ms, {base >> 20} MiB")
         growth = time_writes(replays, empty, base)
         ratio = time_requests(replays, empty)
+        endings = time_endings(replays, empty)
         chunked = time_bodies(replays)
     if growth >= 1.5:
         sys.exit("a write takes half as long again with many clients")
     if ratio >= 1.5:
         sys.exit("a request takes half as long again one way than the other")
+    if endings >= 1.5:
+        sys.exit("a connection takes half as long again where the oldest ends first")
     if chunked > 2:
         sys.exit("a byte of a body in large chunks takes more than twice as long as one of a stated length")
 
