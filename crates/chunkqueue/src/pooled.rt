@@ -14,8 +14,8 @@ use lt_bytes::NoMemory;
 use lt_world::{Fault, FileId, Files, Owner};
 use std::marker::Model;
 
-/// A queue whose chunks are buffers of a pool, linked through their own nodes: a whole queue goes behind another without a
-/// copy, and what was sent is free for the next.
+/// A queue whose chunks are buffers of a pool, linked through their own nodes: a whole queue goes behind another by a link,
+/// but for bytes that fill a buffer, and what was sent is free for the next.
 pub struct ChunkQueue {
     chunks: ChunkList,
     len: u64,

@@ -1,7 +1,7 @@
 //! The body of a request (RFC 9112, sections 6 and 7.1): which of the bytes behind a head are its own, and what data they
 //! carry, however they are cut.
-//! Promised: the answer is that of the definition on all bytes that came; data moves from queue to queue without a copy; after
-//! want of memory nothing is lost, and after a refusal the same is refused again.
+//! Promised: the answer is that of the definition on all bytes that came; the data among them moves from queue to queue;
+//! after want of memory nothing is lost, and after a refusal the same is refused again.
 //! The crate stands on `http_head` (`Framing`), `chunkqueue` (`Queue`), `buffer_pool` (the words on buffers) and `lt_bytes`.
 #![tactic(auto)]
 

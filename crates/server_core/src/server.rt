@@ -13,7 +13,7 @@ use crate::client::Client;
 use crate::replies::Replies;
 use crate::site::Site;
 use crate::step::release;
-use crate::table::{accept_on, read_on, write_on};
+use crate::table::{Arrival, accept_on, read_on, write_on};
 use crate::turn::Turn;
 use chunkqueue::Store;
 use lt_bytes::{NoMemory, Text};
@@ -95,9 +95,7 @@ impl Server {
                     &mut self.store,
                     net,
                     files,
-                    link,
-                    peer,
-                    local,
+                    Arrival { link, peer, local },
                 );
                 Turn::Did
             }

@@ -17,6 +17,14 @@ use lt_world::{Address, Ending, Files, Link, Net};
 /// Clients that are open at once, at most.
 const CONNECTION_LIMIT: usize = 256;
 
+/// A client that arrives: its link, its address and the one that it came to.
+#[derive(Clone, Copy)]
+pub(crate) struct Arrival {
+    pub(crate) link: Link,
+    pub(crate) peer: Address,
+    pub(crate) local: Address,
+}
+
 // The place of a link, found without a look at every client.
 fn place(clients: &[Client], link: Link) -> Option<usize>
     requires { Rising (helds clients.now) }
@@ -46,16 +54,14 @@ pub(crate) fn accept_on<N: Net, F: Files>(
     store: &mut Store,
     net: &mut N,
     files: &F,
-    link: Link,
-    peer: Address,
-    local: Address,
+    arrival: Arrival,
 )
     requires calls { 0 < N.calls net.old }
-    requires known { link.0 < N.links net.old }
+    requires known { arrival.link.0 < N.links net.old }
     requires kept { IsKept store.old clients.old.items }
-    requires table { IsTable link.0 (helds clients.old.items) }
+    requires table { IsTable arrival.link.0 (helds clients.old.items) }
     requires backs { F.tells → Backs (F.disk files.now).table (helds clients.old.items) }
-    ensures turn { TurnsOn (Accepted peer local) link.0 (serving site.now.root clients.old.items) (serving site.now.root clients.new.items) N.tells F.tells
+    ensures turn { TurnsOn (Accepted arrival.peer arrival.local) arrival.link.0 (serving site.now.root clients.old.items) (serving site.now.root clients.new.items) N.tells F.tells
         (seen_as (F.disk files.now) (F.faults files.now) (F.failed_read files.now)) (seen_as (F.disk files.now) (F.faults files.now) (F.failed_read files.now))
         (N.trace net.old) (N.trace net.new) }
     ensures kept { IsKept store.new clients.new.items }
@@ -69,13 +75,14 @@ pub(crate) fn accept_on<N: Net, F: Files>(
 {
     let _ = files;
     if clients.len() >= CONNECTION_LIMIT {
-        net.close(link, Ending::Full);
+        net.close(arrival.link, Ending::Full);
         return;
     }
     let Ok(()) = clients.reserve(1) else {
-        net.close(link, Ending::NoMemory);
+        net.close(arrival.link, Ending::NoMemory);
         return;
     };
+    let Arrival { link, peer, local } = arrival;
     match Client::new(site.alloc, Conn::new(site.alloc, link, peer, local)) {
         Ok(client) => clients.push_reserved(client),
         Err(conn) => {
