@@ -1,30 +1,54 @@
 -- Chunks of one list that come behind those of another.
 use Rattle.std.proofs.Common.{suc, ◌≡◌, ℕ, ◌+◌, ◌≤◌, ◌<◌, List, [], ◌∷◌, ◌++◌, length, take, drop, arith, ap, sym, ◌∙◌, refl, subst, append_assoc}
-use Rattle.std.proofs.lemmas.List.{append-nil, length-append}
+use Rattle.std.proofs.lemmas.List.{append-nil, length-append, length-map}
 use Rattle.buffer_pool.specs.State.{ChunkState, PoolState}
-use Rattle.buffer_pool.specs.Edits.{first_of, last_of}
+use Rattle.buffer_pool.specs.Edits.{first_of, last_of, packed}
 use Rattle.buffer_pool.specs.Kept.{places, Kept}
 use Rattle.buffer_pool.specs.declared.buffer.Kind.{Kind}
-use Rattle.buffer_pool.specs.declared.buffer.Kind.TheVariants.{File}
+use Rattle.buffer_pool.specs.declared.buffer.Kind.TheVariants.{Bytes, File}
 use Rattle.buffer_pool.proofs.Keeping.{places_append}
-use Rattle.chunkqueue.specs.Items.{Item, chunk_items, staged_behind}
-use Rattle.chunkqueue.specs.Plain.{chunk_of, AllHeld, NoneStaged, FirstStaged}
-use Rattle.chunkqueue.specs.Pooled.{segment_of, segments_of, AllSound, weight_from, weight_of, AllPaired, BehindPaired, AreKept, CanFollow, Gains, FillsOnly, items_of_chunks, staged_of_chunks}
+use Rattle.chunkqueue.specs.Items.{Item, Byte, chunk_items, staged_behind}
+use Rattle.chunkqueue.specs.Plain.{chunk_of, segment_staged, AllHeld, NoneStaged, FirstStaged}
+use Rattle.chunkqueue.specs.Pooled.{segment_from, segment_of, segments_of, AllSound, weight_from, weight_of, AllPaired, BehindPaired, IsSound, IsTight, AllTight, BehindTight, AreKept, CanFollow, Gains, FillsOnly, items_of_chunks, staged_of_chunks}
 use Rattle.chunkqueue.specs.declared.merging.TheConstants.{MERGE_SIZE}
 use Rattle.chunkqueue.proofs.Pooling.{push_gains, last_weight, staged_head, gains_both}
 use Rattle.chunkqueue.proofs.Segments.{segments-within}
 
 -- a chunk behind the others
-pub follow_gains : (l next : List ChunkState) (c : ChunkState) → AreKept l → CanFollow (c ∷ []) → next ≡ l ++ c ∷ [] → (0 < length l → MERGE_SIZE < weight_of (last_of l) + weight_of c) → Gains l next (items_of_chunks (c ∷ []))
-follow_gains l next c had can is apart = subst (λ (m : List ChunkState). Gains l m (items_of_chunks (c ∷ []))) (sym is)
-    (push_gains l c (items_of_chunks (c ∷ [])) had can.sound.0 can.held.0 can.none.0 (sym (append-nil (chunk_items (chunk_of (segment_of c))))) apart)
+pub follow_gains : (l next : List ChunkState) (c d : ChunkState) → AreKept l → CanFollow (c ∷ []) → d ≡ packed c → next ≡ l ++ d ∷ [] → (1 < length l → MERGE_SIZE < weight_of (last_of l) + weight_of c) → Gains l next (items_of_chunks (c ∷ []))
+follow_gains l next c d had can tight is apart = subst (λ (m : List ChunkState). Gains l m (items_of_chunks (c ∷ []))) (sym (is ∙ ap (λ (x : ChunkState). l ++ x ∷ []) tight))
+    (push_gains l (packed c) (items_of_chunks (c ∷ [])) had sound can.held.0 can.none.0 (sym (append-nil (chunk_items (chunk_of (segment_of c))))) apart (omega (arith, can.sound.0.within))) where
+      sound : IsSound (packed c)
+      sound = record { within = omega (arith, can.sound.0.within); roomy = λ none. omega (arith, none); ends = can.sound.0.ends }
+
+-- a chunk that is tight is packed
+pub tight_packed : (c : ChunkState) → IsTight c → c ≡ packed c
+tight_packed c tight = ap (λ (room : ℕ). record c { room = room }) (omega (arith, tight))
+
+-- a range holds nothing
+none_held : (k : Kind) (bytes : List ℕ) (file start len : ℕ) → k ≡ File file start len → segment_staged (segment_from k bytes) ≡ [] → bytes ≡ []
+none_held k bytes file start len e none = subst (λ (j : Kind). segment_staged (segment_from j bytes) ≡ []) e none
+
+pub range_packed : (c : ChunkState) (file start len : ℕ) → c.kind ≡ File file start len → CanFollow (c ∷ []) → c ≡ packed c
+range_packed c file start len e can =
+    let none : length c.bytes ≡ 0 = ap length (none_held c.kind c.bytes file start len e can.none.0) in
+    tight_packed c (omega (arith, none, can.sound.0.roomy none))
+
+-- what is copied of a chunk that moves is no more than moves
+held_within : (k : Kind) (bytes : List ℕ) → segment_staged (segment_from k bytes) ≡ [] → length bytes ≤ length (chunk_items (chunk_of (segment_from k bytes)))
+held_within Bytes bytes none = omega (arith, length-map bytes Byte)
+held_within (File file start len) bytes none = omega (arith, ap length none)
+
+pub moves_held : (from rest : List ChunkState) (c : ChunkState) → CanFollow from → from ≡ c ∷ rest → length c.bytes + length (items_of_chunks rest) ≤ length (items_of_chunks from)
+moves_held from rest c can is = let all : CanFollow (c ∷ rest) = subst CanFollow is can in
+    omega (arith, ap (λ (l : List ChunkState). length (items_of_chunks l)) is, length-append (chunk_items (chunk_of (segment_of c))) (items_of_chunks rest), held_within c.kind c.bytes all.none.0)
 
 file_weight : (k : Kind) (bytes : List ℕ) (file start len : ℕ) → k ≡ File file start len → weight_from k bytes ≡ MERGE_SIZE
 file_weight k bytes file start len e = ap (λ (j : Kind). weight_from j bytes) e
 
 -- a range is never merged
-pub range_apart : (l : List ChunkState) (c : ChunkState) (file start len : ℕ) → AreKept l → c.kind ≡ File file start len → 0 < length l → MERGE_SIZE < weight_of (last_of l) + weight_of c
-range_apart l c file start len had e some = omega (arith, file_weight c.kind c.bytes file start len e, last_weight l some had.held)
+pub range_apart : (l : List ChunkState) (c : ChunkState) (file start len : ℕ) → AreKept l → c.kind ≡ File file start len → 1 < length l → MERGE_SIZE < weight_of (last_of l) + weight_of c
+range_apart l c file start len had e some = omega (arith, file_weight c.kind c.bytes file start len e, last_weight l (omega (arith, some)) had.held)
 
 pub last_of-push : (l next : List ChunkState) (x : ChunkState) → next ≡ l ++ x ∷ [] → last_of next ≡ x
 last_of-push l next x is = ap last_of is ∙ last_push l x where
@@ -32,6 +56,18 @@ last_of-push l next x is = ap last_of is ∙ last_push l x where
   last_push [] y = refl
   last_push (c ∷ []) y = refl
   last_push (c ∷ d ∷ m) y = last_push (d ∷ m) y
+
+-- its weight stays
+pub packed_last : (l next : List ChunkState) (c d : ChunkState) → d ≡ packed c → next ≡ l ++ d ∷ [] → weight_of c ≤ weight_of (last_of next)
+packed_last l next c d tight is = omega (arith, ap weight_of (last_of-push l next d is), ap weight_of tight)
+
+-- nor is its number another one
+pub pushed_kept : (p q : PoolState) (l next : List ℕ) (m n k : ℕ) → FillsOnly p q k → m ≡ n → next ≡ l ++ m ∷ [] → Kept p (l ++ n ∷ []) q next
+pushed_kept p q l next m n k only same is = rw (is, same) (record {
+  rises = omega (arith, only.made);
+  counts = λ j. grind (arith, ap (places j) only.free, only.made);
+  total = omega (arith, only.made, ap length only.free);
+})
 
 -- a chunk whose bytes were merged is free again
 pub merged_kept : (p q r : PoolState) (l next : List ℕ) (n m : ℕ) → FillsOnly p q m → next ≡ l → Kept q (n ∷ []) r [] → Kept p (l ++ n ∷ []) r next
@@ -52,6 +88,14 @@ moved_kept p q l next from rest n e one = rw e (record {
 AllSound-append : (l m : List ChunkState) → AllSound l → AllSound m → AllSound (l ++ m)
 AllSound-append [] m hl hm = hm
 AllSound-append (c ∷ l) m hl hm = (hl.0, AllSound-append l m hl.1 hm)
+
+AllTight-append : (l m : List ChunkState) → AllTight l → AllTight m → AllTight (l ++ m)
+AllTight-append [] m hl hm = hm
+AllTight-append (c ∷ l) m hl hm = (hl.0, AllTight-append l m hl.1 hm)
+
+BehindTight-append : (l m : List ChunkState) → 0 < length l → BehindTight l → AllTight m → BehindTight (l ++ m)
+BehindTight-append [] m some hl hm = absurd (omega arith)
+BehindTight-append (c ∷ l) m some hl hm = AllTight-append l m hl hm
 
 AllHeld-append : (l m : List ChunkState) → AllHeld (segments_of l) → AllHeld (segments_of m) → AllHeld (segments_of (l ++ m))
 AllHeld-append [] m hl hm = hm
@@ -85,14 +129,15 @@ staged-append [] m some = absurd (omega arith)
 staged-append (c ∷ l) m some = staged_head (segment_of c) (segments_of (l ++ m)) ∙ sym (staged_head (segment_of c) (segments_of l))
 
 -- the rest behind
-pub rest_gains : (l m : List ChunkState) → AreKept l → 0 < length l → AllHeld (segments_of m) → NoneStaged (segments_of m) → AllSound m → AllPaired m → (0 < length m → MERGE_SIZE < weight_of (last_of l) + weight_of (first_of m))
+pub rest_gains : (l m : List ChunkState) → AreKept l → 0 < length l → AllHeld (segments_of m) → NoneStaged (segments_of m) → AllSound m → AllPaired m → (0 < length m → MERGE_SIZE < weight_of (last_of l) + weight_of (first_of m)) → AllTight m
     → Gains l (l ++ m) (items_of_chunks m)
-rest_gains l m had some held none sound paired apart = record {
+rest_gains l m had some held none sound paired apart tight = record {
   kept = record {
     held = AllHeld-append l m had.held held;
     first = FirstStaged-append l m some had.first none;
     sound = AllSound-append l m had.sound sound;
     paired = BehindPaired-append l m some had.paired paired apart;
+    tight = BehindTight-append l m some had.tight tight;
   };
   items = items_of_chunks-append l m;
   staged = staged-append l m some;
@@ -113,7 +158,7 @@ behind_gains l a b n (x ∷ y ∷ r) mid last had can one e two some w f is =
     let second : Gains a b (items_of_chunks (y ∷ [])) = subst (λ (m : List ChunkState). Gains a b (items_of_chunks (take 1 m))) e two in
     let both = gains_both l a b (items_of_chunks (x ∷ [])) (items_of_chunks (y ∷ [])) one second in
     let all = gains_both l b (b ++ r) (items_of_chunks (x ∷ []) ++ items_of_chunks (y ∷ [])) (items_of_chunks r) both
-    (rest_gains b r second.kept some can.held.1.1 can.none.1.1 can.sound.1.1 (tail_paired y r can.paired) (next_apart y r (weight_of (last_of b)) weight can.paired)) in
+    (rest_gains b r second.kept some can.held.1.1 can.none.1.1 can.sound.1.1 (tail_paired y r can.paired) (next_apart y r (weight_of (last_of b)) weight can.paired) can.tight.1) in
     subst (λ (m : List ChunkState). Gains l m (items_of_chunks (x ∷ y ∷ r))) (sym now) (subst (λ (i : List Item). Gains l (b ++ r) i) (three x y r) all) where
       tail_paired : (y : ChunkState) (r : List ChunkState) → AllPaired (y ∷ r) → AllPaired r
       tail_paired y [] h = tt

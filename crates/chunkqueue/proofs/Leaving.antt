@@ -9,7 +9,7 @@ use Rattle.buffer_pool.specs.declared.buffer.Kind.TheVariants.{Bytes, File}
 use Rattle.buffer_pool.specs.declared.buffer.TheConstants.{BUFFER_SIZE}
 use Rattle.chunkqueue.specs.Plain.{front_of_segment, front_of_segments, segment_left, segment_after, segments_after, IsHeld, chunks_of, segment_items, IsPlain}
 use Rattle.chunkqueue.specs.Items.{staged_in}
-use Rattle.chunkqueue.specs.Pooled.{segment_from, segment_of, segments_of, Ends, IsSound, AllSound, AllPaired, BehindPaired, AreKept, IsPooled, cut, chunk_after, chunks_after, items_of_chunks, staged_of_chunks}
+use Rattle.chunkqueue.specs.Pooled.{segment_from, segment_of, segments_of, Ends, IsSound, AllSound, AllPaired, BehindPaired, AllTight, BehindTight, AreKept, IsPooled, cut, chunk_after, chunks_after, items_of_chunks, staged_of_chunks}
 use Rattle.chunkqueue.specs.declared.segment.Segment.{Segment}
 use Rattle.chunkqueue.proofs.Segments.{segment_items-after, staged_in-after, after_plain}
 
@@ -70,6 +70,15 @@ paired-unless_spent : (b : Bool) (c : ChunkState) (cs : List ChunkState) → All
 paired-unless_spent true c cs h = behind cs h
 paired-unless_spent false c cs h = h
 
+tight-unless_spent : (b : Bool) (c : ChunkState) (cs : List ChunkState) → AllTight cs → BehindTight (if b then cs else c ∷ cs)
+tight-unless_spent true c [] h = tt
+tight-unless_spent true c (d ∷ cs) h = h.1
+tight-unless_spent false c cs h = h
+
+BehindTight-after : (n : ℕ) (l : List ChunkState) → AreKept l → BehindTight (chunks_after n l)
+BehindTight-after n [] had = tt
+BehindTight-after n (c ∷ cs) had = tight-unless_spent (segment_left (segment_of (chunk_after c n)) == 0) (chunk_after c n) cs had.tight
+
 AllSound-after : (n : ℕ) (l : List ChunkState) → AreKept l → n ≤ length (first_of l).bytes → AllSound (chunks_after n l)
 AllSound-after n [] had h = tt
 AllSound-after n (c ∷ cs) had h = sound-unless_spent (segment_left (segment_of (chunk_after c n)) == 0) (chunk_after c n) cs (sound_after n c had.held.0 h had.sound.0) had.sound.1
@@ -81,13 +90,13 @@ BehindPaired-after n (c ∷ cs) had = paired-unless_spent (segment_left (segment
 pub as_plain : (l : List ChunkState) (len : ℕ) → IsPooled l len → IsPlain (segments_of l) len
 as_plain l len had = record { held = had.kept.held; first = had.kept.first; counts = had.counts; fits = had.fits }
 
-pub of_plain : (l : List ChunkState) (len : ℕ) → IsPlain (segments_of l) len → AllSound l → BehindPaired l → IsPooled l len
-of_plain l len had sound paired = record { kept = record { held = had.held; first = had.first; sound = sound; paired = paired }; counts = had.counts; fits = had.fits }
+pub of_plain : (l : List ChunkState) (len : ℕ) → IsPlain (segments_of l) len → AllSound l → BehindPaired l → BehindTight l → IsPooled l len
+of_plain l len had sound paired tight = record { kept = record { held = had.held; first = had.first; sound = sound; paired = paired; tight = tight }; counts = had.counts; fits = had.fits }
 
 pub after_pooled : (n : ℕ) (l next : List ChunkState) (len : ℕ) → IsPooled l len → n ≤ length (front_of_segments (segments_of l)) → next ≡ chunks_after n l → IsPooled next (len - n)
 after_pooled n l next len had h is = rw is (of_plain (chunks_after n l) (len - n)
     (after_plain n (segments_of l) (segments_of (chunks_after n l)) len (as_plain l len had) h (segments_of-after n l))
-    (AllSound-after n l had.kept (front_held l n h)) (BehindPaired-after n l had.kept))
+    (AllSound-after n l had.kept (front_held l n h)) (BehindPaired-after n l had.kept) (BehindTight-after n l had.kept))
 
 pub items-after : (n : ℕ) (l next : List ChunkState) → AreKept l → n ≤ length (front_of_segments (segments_of l)) → next ≡ chunks_after n l → items_of_chunks next ≡ drop n (items_of_chunks l)
 items-after n l next had h is = ap items_of_chunks is ∙ ap segment_items (segments_of-after n l) ∙ segment_items-after n (segments_of l) had.held h

@@ -10,7 +10,7 @@ use Rattle.buffer_pool.specs.declared.buffer.Kind.TheVariants.{Bytes, File}
 use Rattle.buffer_pool.proofs.Keeping.{numbers_append, places_append, made_between-sum}
 use Rattle.chunkqueue.specs.Items.{Item, Byte, chunk_items, range, staged_behind}
 use Rattle.chunkqueue.specs.Plain.{chunk_of, segment_left, AllHeld, NoneStaged}
-use Rattle.chunkqueue.specs.Pooled.{segment_from, segment_of, segments_of, AllSound, AllPaired, BehindPaired, AreKept, CanFollow, Gains, Moved, items_of_chunks, staged_of_chunks}
+use Rattle.chunkqueue.specs.Pooled.{segment_from, segment_of, segments_of, AllSound, AllPaired, BehindPaired, AllTight, BehindTight, AreKept, CanFollow, Gains, Moved, items_of_chunks, staged_of_chunks}
 use Rattle.chunkqueue.specs.declared.segment.Segment.{Segment}
 use Rattle.chunkqueue.proofs.Cutting.{take-parts, drop-parts, nothing_behind}
 use Rattle.chunkqueue.proofs.Following.{items_of_chunks-append}
@@ -109,6 +109,26 @@ behind_first : (a b : List ChunkState) → BehindPaired (a ++ b) → BehindPaire
 behind_first [] b h = tt
 behind_first (c ∷ a) b h = paired_first a b h
 
+all_tight_first : (a b : List ChunkState) → AllTight (a ++ b) → AllTight a
+all_tight_first [] b h = tt
+all_tight_first (c ∷ a) b h = (h.0, all_tight_first a b h.1)
+
+tight_first : (a b : List ChunkState) → BehindTight (a ++ b) → BehindTight a
+tight_first [] b h = tt
+tight_first (c ∷ a) b h = all_tight_first a b h
+
+tight_of : (b : List ChunkState) → AllTight b → BehindTight b
+tight_of [] h = tt
+tight_of (c ∷ b) h = h.1
+
+all_tight_last : (a b : List ChunkState) → AllTight (a ++ b) → AllTight b
+all_tight_last [] b h = h
+all_tight_last (c ∷ a) b h = all_tight_last a b h.1
+
+tight_last : (a b : List ChunkState) → BehindTight (a ++ b) → BehindTight b
+tight_last [] b h = h
+tight_last (c ∷ a) b h = tight_of b (all_tight_last a b h)
+
 tail_paired : (c : ChunkState) (b : List ChunkState) → AllPaired (c ∷ b) → AllPaired b
 tail_paired c [] h = tt
 tail_paired c (d ∷ b) h = h.1
@@ -128,15 +148,15 @@ behind_last (c ∷ a) b h = behind_of b (paired_last a b h)
 pub front_follows : (a b l : List ChunkState) → a ++ b ≡ l → CanFollow l → CanFollow a
 front_follows a b l is can =
     let all : CanFollow (a ++ b) = subst CanFollow (sym is) can in
-    record { held = held_first a b all.held; none = none_first a b all.none; sound = sound_first a b all.sound; paired = behind_first a b all.paired }
+    record { held = held_first a b all.held; none = none_first a b all.none; sound = sound_first a b all.sound; paired = behind_first a b all.paired; tight = tight_first a b all.tight }
 
 pub back_follows : (a b l : List ChunkState) → a ++ b ≡ l → CanFollow l → CanFollow b
 back_follows a b l is can =
     let all : CanFollow (a ++ b) = subst CanFollow (sym is) can in
-    record { held = held_last a b all.held; none = none_last a b all.none; sound = sound_last a b all.sound; paired = behind_last a b all.paired }
+    record { held = held_last a b all.held; none = none_last a b all.none; sound = sound_last a b all.sound; paired = behind_last a b all.paired; tight = tight_last a b all.tight }
 
 pub follows_kept : (l : List ChunkState) → CanFollow l → AreKept l
-follows_kept l can = record { held = can.held; first = NoneStaged-first (segments_of l) can.none; sound = can.sound; paired = can.paired }
+follows_kept l can = record { held = can.held; first = NoneStaged-first (segments_of l) can.none; sound = can.sound; paired = can.paired; tight = can.tight }
 
 first_within : (b : List ChunkState) → 0 < length b → segment_left (segment_of (first_of b)) ≤ length (items_of_chunks b)
 first_within [] some = absurd (omega arith)

@@ -1,5 +1,5 @@
 -- Bytes that are put behind others, piece by piece.
-use Rattle.std.proofs.Common.{◌≡◌, ℕ, ◌+◌, ◌-◌, ◌*◌, ◌^◌, ◌≤◌, ◌<◌, max, List, ◌++◌, length, map, take, drop, arith, ap, sym, ◌∙◌, append_assoc}
+use Rattle.std.proofs.Common.{◌≡◌, ℕ, ◌+◌, ◌-◌, ◌*◌, ◌^◌, ◌≤◌, ◌<◌, List, ◌++◌, length, map, take, drop, arith, ap, sym, ◌∙◌, append_assoc}
 use Rattle.std.proofs.lemmas.List.{length-take, length-drop, take-append-drop}
 use Rattle.buffer_pool.specs.State.{ChunkState, PoolState}
 use Rattle.buffer_pool.specs.Kept.{numbers, Kept}
@@ -7,7 +7,6 @@ use Rattle.buffer_pool.specs.declared.buffer.TheConstants.{BUFFER_SIZE}
 use Rattle.buffer_pool.proofs.Keeping.{kept_both}
 use Rattle.chunkqueue.specs.Items.{Byte}
 use Rattle.chunkqueue.specs.Pooled.{Gains}
-use Rattle.chunkqueue.specs.declared.merging.TheConstants.{MERGE_SIZE}
 use Rattle.chunkqueue.proofs.Pooling.{map-joined, gains_both}
 
 -- so far the front of the bytes stands behind the chunks
@@ -26,7 +25,7 @@ both l m n a b one two = rw (map-joined a b) (gains_both l m n (map Byte a) (map
 
 -- a whole piece more
 pub appending_more : (l : List ChunkState) (p : PoolState) (bytes : List ℕ) (m n : List ChunkState) (q r : PoolState) (rest piece more : List ℕ) → Appending l p bytes m q rest → BUFFER_SIZE < length rest
-    → piece ≡ take BUFFER_SIZE rest → more ≡ drop BUFFER_SIZE rest → Gains m n (map Byte piece) → length n ≤ length m + 1 → length q.free ≤ length r.free + 1 → r.filled ≤ q.filled + max (length piece) MERGE_SIZE
+    → piece ≡ take BUFFER_SIZE rest → more ≡ drop BUFFER_SIZE rest → Gains m n (map Byte piece) → length n ≤ length m + 1 → length q.free ≤ length r.free + 1 → r.filled ≤ q.filled + length piece
     → Kept q (numbers m) r (numbers n) → Appending l p bytes n r more
 appending_more l p bytes m n q r rest piece more had long is others one count spare filled kept =
     let size : length piece ≡ BUFFER_SIZE = omega (arith, ap length is, length-take BUFFER_SIZE rest) in

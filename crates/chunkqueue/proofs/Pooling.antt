@@ -1,14 +1,14 @@
 -- Lists of chunks: what stands in them, once the last one is changed or one more comes.
-use Rattle.std.proofs.Common.{◌≡◌, ℕ, ◌+◌, ◌-◌, ◌^◌, ◌≤◌, ◌<◌, List, [], ◌∷◌, ◌++◌, length, map, arith, ap, sym, ◌∙◌, refl, subst, append_assoc}
+use Rattle.std.proofs.Common.{◌≡◌, ℕ, ◌+◌, ◌^◌, ◌≤◌, ◌<◌, List, [], ◌∷◌, ◌++◌, length, map, arith, ap, sym, ◌∙◌, refl, subst, append_assoc}
 use Rattle.std.proofs.lemmas.List.{append-nil, length-append}
 use Rattle.buffer_pool.specs.State.{ChunkState}
-use Rattle.buffer_pool.specs.Edits.{blank, last_of, with_last, put_in, packed, as_file}
+use Rattle.buffer_pool.specs.Edits.{blank, last_of, with_last, put_in, as_file}
 use Rattle.buffer_pool.specs.declared.buffer.Kind.{Kind}
 use Rattle.buffer_pool.specs.declared.buffer.Kind.TheVariants.{Bytes, File}
 use Rattle.buffer_pool.specs.declared.buffer.TheConstants.{BUFFER_SIZE}
 use Rattle.chunkqueue.specs.Items.{Item, Byte, range, chunk_items, staged_in}
 use Rattle.chunkqueue.specs.Plain.{chunk_of, chunks_of, segment_staged, IsHeld, AllHeld, NoneStaged, FirstStaged}
-use Rattle.chunkqueue.specs.Pooled.{segment_from, segment_of, segments_of, Ends, IsSound, AllSound, weight_from, weight_of, AllPaired, BehindPaired, AreKept, items_of_chunks, staged_of_chunks, Gains}
+use Rattle.chunkqueue.specs.Pooled.{segment_from, segment_of, segments_of, Ends, IsSound, AllSound, weight_from, weight_of, AllPaired, BehindPaired, IsTight, AllTight, BehindTight, AreKept, items_of_chunks, staged_of_chunks, Gains}
 use Rattle.chunkqueue.specs.declared.merging.TheConstants.{MERGE_SIZE}
 use Rattle.chunkqueue.specs.declared.segment.Segment.{Segment}
 use Rattle.chunkqueue.specs.declared.segment.Segment.TheVariants as segment
@@ -68,6 +68,27 @@ BehindPaired-with_last [] x h w = tt
 BehindPaired-with_last (c ∷ []) x h w = tt
 BehindPaired-with_last (c ∷ d ∷ l) x h w = AllPaired-with_last (d ∷ l) x h w
 
+AllTight-with_last : (l : List ChunkState) (x : ChunkState) → AllTight l → IsTight x → AllTight (with_last l x)
+AllTight-with_last [] x h t = tt
+AllTight-with_last (c ∷ []) x h t = (t, tt)
+AllTight-with_last (c ∷ d ∷ l) x h t = (h.0, AllTight-with_last (d ∷ l) x h.1 t)
+
+BehindTight-with_last : (l : List ChunkState) (x : ChunkState) → BehindTight l → (1 < length l → IsTight x) → BehindTight (with_last l x)
+BehindTight-with_last [] x h t = tt
+BehindTight-with_last (c ∷ []) x h t = tt
+BehindTight-with_last (c ∷ d ∷ l) x h t = AllTight-with_last (d ∷ l) x h (t (omega arith))
+
+all_tight : (l : List ChunkState) → 0 < length l → AllTight l → IsTight (last_of l)
+all_tight [] some h = absurd (omega arith)
+all_tight (c ∷ []) some h = h.0
+all_tight (c ∷ d ∷ l) some h = all_tight (d ∷ l) (omega arith) h.1
+
+-- behind the front the last chunk is tight
+pub last_tight : (l : List ChunkState) → 1 < length l → BehindTight l → IsTight (last_of l)
+last_tight [] some h = absurd (omega arith)
+last_tight (c ∷ []) some h = absurd (omega arith)
+last_tight (c ∷ d ∷ l) some h = all_tight (d ∷ l) (omega arith) h
+
 items-with_last : (l : List ChunkState) (x : ChunkState) (more : List Item) → 0 < length l → chunk_items (chunk_of (segment_of x)) ≡ chunk_items (chunk_of (segment_of (last_of l))) ++ more
     → items_of_chunks (with_last l x) ≡ items_of_chunks l ++ more
 items-with_last [] x more h e = absurd (omega arith)
@@ -86,9 +107,9 @@ map-joined [] b = refl
 map-joined (x ∷ a) b = ap (λ (i : List Item). Byte x ∷ i) (map-joined a b)
 
 -- bytes come behind those of the last chunk
-pub put_gains : (l : List ChunkState) (x : ChunkState) (bytes : List ℕ) → AreKept l → 0 < length l → (last_of l).kind ≡ Bytes → x.kind ≡ Bytes → x.bytes ≡ (last_of l).bytes ++ bytes → 0 < length bytes → IsSound x
+pub put_gains : (l : List ChunkState) (x : ChunkState) (bytes : List ℕ) → AreKept l → 0 < length l → (last_of l).kind ≡ Bytes → x.kind ≡ Bytes → x.bytes ≡ (last_of l).bytes ++ bytes → 0 < length bytes → IsSound x → (1 < length l → IsTight x)
     → Gains l (with_last l x) (map Byte bytes)
-put_gains l x bytes had some last kind is more sound =
+put_gains l x bytes had some last kind is more sound tight =
     let size : length x.bytes ≡ length (last_of l).bytes + length bytes = ap length is ∙ length-append (last_of l).bytes bytes in
     let none : segment_staged (segment_of x) ≡ [] = memory_staged x kind in
     let weight : weight_of (last_of l) ≤ weight_of x = omega (arith, memory_weight x kind, memory_weight (last_of l) last, size) in
@@ -100,6 +121,7 @@ put_gains l x bytes had some last kind is more sound =
         first = FirstStaged-with_last l x had.first none;
         sound = AllSound-with_last l x had.sound sound;
         paired = BehindPaired-with_last l x had.paired weight;
+        tight = BehindTight-with_last l x had.tight tight;
       };
       items = items-with_last l x (map Byte bytes) some items;
       staged = staged-with_last l x (none ∙ sym (memory_staged (last_of l) last));
@@ -120,39 +142,13 @@ filled_gains l bytes had some last more fits =
       within = omega (arith, was.within, size, fits);
       roomy = λ none. absurd (omega (arith, none, size, more));
       ends = memory_ends c last;
-    })
+    }) (λ behind. omega (arith, size, fits, last_tight l behind had.tight))
 
 last_of-with_last : (l : List ChunkState) (x : ChunkState) → 0 < length l → last_of (with_last l x) ≡ x
 last_of-with_last [] x h = absurd (omega arith)
 last_of-with_last (c ∷ []) x h = refl
 last_of-with_last (c ∷ d ∷ []) x h = refl
 last_of-with_last (c ∷ d ∷ e ∷ l) x h = last_of-with_last (d ∷ e ∷ l) x (omega arith)
-
-with_last-again : (l : List ChunkState) (x y : ChunkState) → with_last (with_last l x) y ≡ with_last l y
-with_last-again [] x y = refl
-with_last-again (c ∷ []) x y = refl
-with_last-again (c ∷ d ∷ []) x y = refl
-with_last-again (c ∷ d ∷ e ∷ l) x y = ap (λ (m : List ChunkState). c ∷ m) (with_last-again (d ∷ e ∷ l) x y)
-
-pub packed_room : (l : List ChunkState) → 0 < length l → (last_of (with_last l (packed (last_of l)))).room ≡ BUFFER_SIZE - length (last_of l).bytes
-packed_room l some = ap (λ (c : ChunkState). c.room) (last_of-with_last l (packed (last_of l)) some)
-
--- bytes that fit once the last chunk is packed
-pub merged_gains : (l next : List ChunkState) (bytes : List ℕ) → AreKept l → 0 < length l → (last_of l).kind ≡ Bytes → 0 < length bytes → length (last_of l).bytes + length bytes ≤ BUFFER_SIZE
-    → next ≡ with_last (with_last l (packed (last_of l))) (put_in (last_of (with_last l (packed (last_of l)))) bytes) → Gains l next (map Byte bytes)
-merged_gains l next bytes had some last more fits is =
-    let c = last_of l in let x = put_in (packed c) bytes in
-    let size = length-append c.bytes bytes in
-    let whole : next ≡ with_last l x = is ∙ with_last-again l (packed c) (put_in (last_of (with_last l (packed c))) bytes) ∙ ap (λ (d : ChunkState). with_last l (put_in d bytes)) (last_of-with_last l (packed c) some) in
-    subst (λ (m : List ChunkState). Gains l m (map Byte bytes)) (sym whole) (put_gains l x bytes had some last last refl more (record {
-      within = omega (arith, size, fits);
-      roomy = λ none. absurd (omega (arith, none, size, more));
-      ends = memory_ends c last;
-    }))
-
-pub merged_as : (l mid next : List ChunkState) (bytes : List ℕ) → mid ≡ with_last l (packed (last_of l)) → next ≡ with_last mid (put_in (last_of mid) bytes)
-    → next ≡ with_last (with_last l (packed (last_of l))) (put_in (last_of (with_last l (packed (last_of l)))) bytes)
-merged_as l mid next bytes e f = f ∙ ap (λ (m : List ChunkState). with_last m (put_in (last_of m) bytes)) e
 
 -- a chunk behind the others
 AllSound-push : (l : List ChunkState) (x : ChunkState) → AllSound l → IsSound x → AllSound (l ++ x ∷ [])
@@ -176,10 +172,18 @@ AllPaired-push [] x h w = tt
 AllPaired-push (c ∷ []) x h w = (w (omega arith), tt)
 AllPaired-push (c ∷ d ∷ l) x h w = (h.0, AllPaired-push (d ∷ l) x h.1 (λ some. w (omega arith)))
 
-BehindPaired-push : (l : List ChunkState) (x : ChunkState) → BehindPaired l → (0 < length l → MERGE_SIZE < weight_of (last_of l) + weight_of x) → BehindPaired (l ++ x ∷ [])
+BehindPaired-push : (l : List ChunkState) (x : ChunkState) → BehindPaired l → (1 < length l → MERGE_SIZE < weight_of (last_of l) + weight_of x) → BehindPaired (l ++ x ∷ [])
 BehindPaired-push [] x h w = tt
 BehindPaired-push (c ∷ []) x h w = tt
 BehindPaired-push (c ∷ d ∷ l) x h w = AllPaired-push (d ∷ l) x h (λ some. w (omega arith))
+
+AllTight-push : (l : List ChunkState) (x : ChunkState) → AllTight l → IsTight x → AllTight (l ++ x ∷ [])
+AllTight-push [] x h t = (t, tt)
+AllTight-push (c ∷ l) x h t = (h.0, AllTight-push l x h.1 t)
+
+BehindTight-push : (l : List ChunkState) (x : ChunkState) → BehindTight l → IsTight x → BehindTight (l ++ x ∷ [])
+BehindTight-push [] x h t = tt
+BehindTight-push (c ∷ l) x h t = AllTight-push l x h t
 
 items-push : (l : List ChunkState) (x : ChunkState) → items_of_chunks (l ++ x ∷ []) ≡ items_of_chunks l ++ chunk_items (chunk_of (segment_of x))
 items-push [] x = append-nil (chunk_items (chunk_of (segment_of x)))
@@ -193,24 +197,25 @@ staged-push (c ∷ l) x e = staged_head (segment_of c) (segments_of (l ++ x ∷ 
 
 -- and what it brings
 pub push_gains : (l : List ChunkState) (x : ChunkState) (more : List Item) → AreKept l → IsSound x → IsHeld (segment_of x) → segment_staged (segment_of x) ≡ [] → chunk_items (chunk_of (segment_of x)) ≡ more
-    → (0 < length l → MERGE_SIZE < weight_of (last_of l) + weight_of x) → Gains l (l ++ x ∷ []) more
-push_gains l x more had sound held none is apart = record {
+    → (1 < length l → MERGE_SIZE < weight_of (last_of l) + weight_of x) → IsTight x → Gains l (l ++ x ∷ []) more
+push_gains l x more had sound held none is apart tight = record {
   kept = record {
     held = AllHeld-push l x had.held held;
     first = FirstStaged-push l x had.first none;
     sound = AllSound-push l x had.sound sound;
     paired = BehindPaired-push l x had.paired apart;
+    tight = BehindTight-push l x had.tight tight;
   };
   items = items-push l x ∙ ap (λ (i : List Item). items_of_chunks l ++ i) is;
   staged = staged-push l x none;
 }
 
 -- bytes in a chunk of their own
-pub piece_gains : (l : List ChunkState) (n : ℕ) (bytes : List ℕ) → AreKept l → 0 < length bytes → length bytes ≤ BUFFER_SIZE → (0 < length l → MERGE_SIZE < weight_of (last_of l) + length bytes)
+pub piece_gains : (l : List ChunkState) (n : ℕ) (bytes : List ℕ) → AreKept l → 0 < length bytes → length bytes ≤ BUFFER_SIZE → (1 < length l → MERGE_SIZE < weight_of (last_of l) + length bytes)
     → Gains l (l ++ put_in (blank n) bytes ∷ []) (map Byte bytes)
 piece_gains l n bytes had some fits apart =
     push_gains l (put_in (blank n) bytes) (map Byte bytes) had
-    (record { within = omega arith; roomy = λ none. absurd (omega (arith, none, some)); ends = tt }) some refl refl apart
+    (record { within = omega arith; roomy = λ none. absurd (omega (arith, none, some)); ends = tt }) some refl refl apart (omega (arith, fits))
 
 weight_some : (k : Kind) (bytes : List ℕ) → IsHeld (segment_from k bytes) → 0 < weight_from k bytes
 weight_some Bytes bytes held = held
@@ -225,7 +230,7 @@ last_weight (c ∷ d ∷ l) h s = last_weight (d ∷ l) (omega arith) s.1
 pub range_gains : (l : List ChunkState) (n file start len : ℕ) → AreKept l → 0 < len → start + len < 2 ^ 63 → Gains l (l ++ as_file (blank n) file start len ∷ []) (range file start len)
 range_gains l n file start len had some ends =
     push_gains l (as_file (blank n) file start len) (range file start len) had
-    (record { within = omega arith; roomy = λ none. refl; ends = ends }) (some, omega arith) refl refl (λ more. omega (arith, last_weight l more had.held))
+    (record { within = omega arith; roomy = λ none. refl; ends = ends }) (some, omega arith) refl refl (λ more. omega (arith, last_weight l (omega (arith, more)) had.held)) refl
 
 -- more after more
 pub gains_both : (l m n : List ChunkState) (a b : List Item) → Gains l m a → Gains m n b → Gains l n (a ++ b)
@@ -237,7 +242,7 @@ gains_both l m n a b one two = record {
 
 -- bytes in a chunk of their own, as the code finds it
 pub piece_as : (l m next : List ChunkState) (c x : ChunkState) (bytes : List ℕ) → AreKept l → 0 < length bytes → length bytes ≤ BUFFER_SIZE → m ≡ l
-    → (0 < length l → MERGE_SIZE < weight_of (last_of l) + length bytes) → c ≡ blank c.number → x ≡ put_in c bytes → next ≡ m ++ x ∷ [] → Gains l next (map Byte bytes)
+    → (1 < length l → MERGE_SIZE < weight_of (last_of l) + length bytes) → c ≡ blank c.number → x ≡ put_in c bytes → next ≡ m ++ x ∷ [] → Gains l next (map Byte bytes)
 piece_as l m next c x bytes had some fits same apart empty put is =
     let now = is ∙ ap (λ (y : ChunkState). m ++ y ∷ []) (put ∙ ap (λ (y : ChunkState). put_in y bytes) empty) ∙ ap (λ (k : List ChunkState). k ++ put_in (blank c.number) bytes ∷ []) same in
     subst (λ (k : List ChunkState). Gains l k (map Byte bytes)) (sym now) (piece_gains l c.number bytes had some fits apart)
@@ -246,9 +251,3 @@ pub put_weight : (l next : List ChunkState) (bytes : List ℕ) → 0 < length l 
 put_weight l next bytes some last is =
     let x = put_in (last_of l) bytes in
     omega (arith, ap (λ (m : List ChunkState). weight_of (last_of m)) is, ap weight_of (last_of-with_last l x some), memory_weight x last, length-append (last_of l).bytes bytes)
-
-pub merged_weight : (l mid next : List ChunkState) (bytes : List ℕ) → 0 < length l → (last_of l).kind ≡ Bytes → mid ≡ with_last l (packed (last_of l)) → next ≡ with_last mid (put_in (last_of mid) bytes) → length bytes ≤ weight_of (last_of next)
-merged_weight l mid next bytes some last e is =
-    let c = packed (last_of l) in let x = put_in c bytes in
-    let whole : next ≡ with_last l x = is ∙ ap (λ (m : List ChunkState). with_last m (put_in (last_of m) bytes)) e ∙ with_last-again l c (put_in (last_of (with_last l c)) bytes) ∙ ap (λ (d : ChunkState). with_last l (put_in d bytes)) (last_of-with_last l c some) in
-    omega (arith, ap (λ (m : List ChunkState). weight_of (last_of m)) whole, ap weight_of (last_of-with_last l x some), memory_weight x last, length-append c.bytes bytes)

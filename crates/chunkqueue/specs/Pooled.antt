@@ -61,12 +61,26 @@ abbrev pub BehindPaired : List ChunkState → Type 0
 BehindPaired [] = Unit {0}
 BehindPaired (c ∷ cs) = AllPaired cs
 
+-- all that a chunk does not hold is room
+abbrev pub IsTight : ChunkState → Type 0
+IsTight c = length c.bytes + c.room ≡ BUFFER_SIZE
+
+abbrev pub AllTight : List ChunkState → Type 0
+AllTight [] = Unit {0}
+AllTight (c ∷ cs) = IsTight c × AllTight cs
+
+-- bytes were taken off the front chunk alone
+abbrev pub BehindTight : List ChunkState → Type 0
+BehindTight [] = Unit {0}
+BehindTight (c ∷ cs) = AllTight cs
+
 -- the chunks as every call leaves them
 pub record AreKept (chunks : List ChunkState) : Type 0 where
   pub held : AllHeld (segments_of chunks)
   pub first : FirstStaged (segments_of chunks)
   pub sound : AllSound chunks
   pub paired : BehindPaired chunks
+  pub tight : BehindTight chunks
 
 -- the chunks of a queue with so many items
 pub record IsPooled (chunks : List ChunkState) (len : ℕ) : Type 0 where
@@ -148,6 +162,7 @@ pub record CanFollow (chunks : List ChunkState) : Type 0 where
   pub none : NoneStaged (segments_of chunks)
   pub sound : AllSound chunks
   pub paired : BehindPaired chunks
+  pub tight : BehindTight chunks
 
 -- the first n items but the last ones, as many as are left, went behind the others
 pub record Moved (chunks from now rest : List ChunkState) (n left : ℕ) : Type 0 where

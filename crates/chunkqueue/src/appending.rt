@@ -1,10 +1,10 @@
 //! Bytes and ranges behind the chunks of a list.
-ghost use Rattle.std.specs.Prelude.{◌≡◌, ◌+◌, ◌*◌, ◌≤◌, ◌<◌, ◌^◌, length, map, max, OnOk, OnErr, IsOk};
+ghost use Rattle.std.specs.Prelude.{◌≡◌, ◌+◌, ◌*◌, ◌≤◌, ◌<◌, ◌^◌, length, map, OnOk, OnErr, IsOk};
 ghost use Rattle.buffer_pool.specs.Kept.{numbers, Kept, HeldWithin};
 ghost use Rattle.chunkqueue.specs.Items.{Byte, range};
 ghost use Rattle.chunkqueue.specs.Pooled.{AreKept, Gains};
 
-use crate::merging::{MERGE_SIZE, absorb_back, fill_back};
+use crate::merging::fill_back;
 use buffer_pool::{BUFFER_SIZE, ChunkList, Pool};
 use lt_bytes::NoMemory;
 
@@ -18,10 +18,10 @@ pub(crate) fn append_piece(chunks: &mut ChunkList, pool: &mut Pool, piece: &[u8]
     ensures gains { Gains chunks.old chunks.new (map Byte piece.now) }
     ensures length { length chunks.new ≤ length chunks.old + 1 }
     ensures spare { length pool.old.free ≤ length pool.new.free + 1 }
-    ensures filled { pool.new.filled ≤ pool.old.filled + max (length piece.now) MERGE_SIZE }
+    ensures filled { pool.new.filled ≤ pool.old.filled + length piece.now }
     ensures kept { Kept pool.old (numbers chunks.old) pool.new (numbers chunks.new) }
 {
-    if absorb_back(chunks, pool, piece) {
+    if fill_back(chunks, pool, piece) {
         return;
     }
     match pool.take() {
@@ -45,7 +45,7 @@ pub(crate) fn append_bytes(
     ensures gains { OnOk result (Gains chunks.old chunks.new (map Byte bytes.now)) }
     ensures err { OnErr result (chunks.new ≡ chunks.old) }
     ensures spare { length bytes.now ≤ BUFFER_SIZE * length pool.old.free → IsOk result }
-    ensures filled { pool.new.filled ≤ pool.old.filled + length bytes.now + MERGE_SIZE }
+    ensures filled { pool.new.filled ≤ pool.old.filled + length bytes.now }
     ensures kept { Kept pool.old (numbers chunks.old) pool.new (numbers chunks.new) }
 {
     if fill_back(chunks, pool, bytes) {
@@ -66,7 +66,7 @@ fn append_pieces(chunks: &mut ChunkList, pool: &mut Pool, bytes: &[u8])
     requires spare { length bytes.now ≤ BUFFER_SIZE * length pool.old.free }
     requires countable { length chunks.old + length bytes.now < 2 ^ 64 }
     ensures gains { Gains chunks.old chunks.new (map Byte bytes.now) }
-    ensures filled { pool.new.filled ≤ pool.old.filled + length bytes.now + MERGE_SIZE }
+    ensures filled { pool.new.filled ≤ pool.old.filled + length bytes.now }
     ensures kept { Kept pool.old (numbers chunks.old) pool.new (numbers chunks.new) }
 {
     let mut rest = bytes;

@@ -1,15 +1,15 @@
 //! Chunks of one list behind those of another.
 ghost use Rattle.std.specs.Prelude.{◌≡◌, ◌+◌, ◌*◌, ◌≤◌, ◌<◌, ◌^◌, [], ◌∷◌, ◌++◌, length, take, drop};
-ghost use Rattle.buffer_pool.specs.Edits.{first_of, last_of};
+ghost use Rattle.buffer_pool.specs.Edits.{first_of, last_of, packed};
 ghost use Rattle.buffer_pool.specs.Kept.{numbers, Kept, HeldWithin};
 ghost use Rattle.chunkqueue.specs.Items.{staged_behind};
-ghost use Rattle.chunkqueue.specs.Pooled.{AreKept, CanFollow, Gains, items_of_chunks, staged_of_chunks, staged_from, weight_of};
+ghost use Rattle.chunkqueue.specs.Pooled.{AreKept, CanFollow, Gains, FillsOnly, IsSound, items_of_chunks, staged_of_chunks, staged_from, weight_of};
 
-use crate::merging::{MERGE_SIZE, absorb_back};
+use crate::merging::fill_back;
 use buffer_pool::{BUFFER_SIZE, Chunk, ChunkList, Kind, Pool};
 
 /// Moves the chunks of `from` behind the others. Bytes of the first two for which there is room in the chunk before them are
-/// put there, and where two that become neighbours are small, they are merged.
+/// put there, else they are moved to the beginning of their buffer, where some were taken off before them.
 pub(crate) fn append_chunks(chunks: &mut ChunkList, pool: &mut Pool, from: &mut ChunkList)
     requires kept { AreKept chunks.old }
     requires behind { AreKept from.old }
@@ -22,6 +22,7 @@ pub(crate) fn append_chunks(chunks: &mut ChunkList, pool: &mut Pool, from: &mut 
     ensures len { length chunks.new ≤ length chunks.old + length from.old }
     ensures spare { length pool.old.free ≤ length pool.new.free }
     ensures filled { pool.new.filled ≤ pool.old.filled + 2 * BUFFER_SIZE }
+    ensures moves { pool.new.filled ≤ pool.old.filled + length (items_of_chunks from.old) }
     ensures kept { Kept pool.old (numbers chunks.old ++ numbers from.old) pool.new (numbers chunks.new) }
 {
     if chunks.len() == 0 {
@@ -74,6 +75,7 @@ fn move_front(chunks: &mut ChunkList, pool: &mut Pool, from: &mut ChunkList)
     ensures len { length chunks.new + length from.new ≤ length chunks.old + length from.old }
     ensures spare { length pool.old.free ≤ length pool.new.free }
     ensures filled { pool.new.filled ≤ pool.old.filled + BUFFER_SIZE }
+    ensures moves { pool.new.filled + length (items_of_chunks from.new) ≤ pool.old.filled + length (items_of_chunks from.old) }
     ensures kept { Kept pool.old (numbers chunks.old ++ numbers from.old) pool.new (numbers chunks.new ++ numbers from.new) }
 {
     if let Some(chunk) = from.pop_front() {
@@ -92,17 +94,31 @@ fn attach(chunks: &mut ChunkList, pool: &mut Pool, chunk: Chunk)
     ensures some { 0 < length chunks.new }
     ensures len { length chunks.new ≤ length chunks.old + 1 }
     ensures spare { length pool.old.free ≤ length pool.new.free }
-    ensures filled { pool.new.filled ≤ pool.old.filled + BUFFER_SIZE }
+    ensures filled { pool.new.filled ≤ pool.old.filled + length chunk.bytes }
     ensures kept { Kept pool.old (numbers chunks.old ++ chunk.number ∷ []) pool.new (numbers chunks.new) }
 {
     match chunk.kind() {
         Kind::Bytes => {
-            if absorb_back(chunks, pool, chunk.bytes()) {
+            if fill_back(chunks, pool, chunk.bytes()) {
                 pool.give(chunk);
             } else {
-                chunks.push_back(chunk);
+                chunks.push_back(tightened(pool, chunk));
             }
         }
         Kind::File { .. } => chunks.push_back(chunk),
     }
+}
+
+// The chunk with its bytes at the beginning of its buffer.
+fn tightened(pool: &mut Pool, chunk: Chunk) -> Chunk
+    requires sound { IsSound chunk }
+    ensures packed { result ≡ packed chunk }
+    ensures pool { FillsOnly pool.old pool.new (length chunk.bytes) }
+{
+    if chunk.bytes().len() + chunk.room() == BUFFER_SIZE {
+        return chunk;
+    }
+    let mut tight = chunk;
+    tight.pack(pool);
+    tight
 }

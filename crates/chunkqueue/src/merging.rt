@@ -1,15 +1,15 @@
-//! Bytes behind the last chunk of a list.
-ghost use Rattle.std.specs.Prelude.{◌≡◌, ◌+◌, ◌≤◌, ◌<◌, ◌^◌, ◌∷◌, ◌++◌, [], length, map, max, MatchOption};
+//! Bytes behind those of the last chunk of a list.
+ghost use Rattle.std.specs.Prelude.{◌≡◌, ◌+◌, ◌≤◌, ◌<◌, length, map, MatchOption};
 ghost use Rattle.std.specs.Bool.{OnTrue, OnFalse};
 ghost use Rattle.buffer_pool.specs.Edits.{last_of};
-ghost use Rattle.buffer_pool.specs.Kept.{numbers, Kept, HeldWithin};
+ghost use Rattle.buffer_pool.specs.Kept.{numbers};
 ghost use Rattle.buffer_pool.specs.declared.buffer.Kind.TheVariants.{Bytes};
 ghost use Rattle.chunkqueue.specs.Items.{Byte};
 ghost use Rattle.chunkqueue.specs.Pooled.{AreKept, Gains, FillsOnly, weight_of};
 
 use buffer_pool::{BUFFER_SIZE, ChunkList, Kind, Pool};
 
-/// Two neighbouring chunks in memory that hold no more than this together are merged.
+/// Two neighbouring chunks in memory behind the front hold more than this together.
 pub const MERGE_SIZE: usize = 2048;
 
 // What the last chunk holds and the room behind that, where it holds bytes in memory.
@@ -31,7 +31,7 @@ pub(crate) fn fill_back(chunks: &mut ChunkList, pool: &mut Pool, bytes: &[u8]) -
     requires some { 0 < length bytes.now }
     ensures gains { OnTrue result (Gains chunks.old chunks.new (map Byte bytes.now)) }
     ensures same { OnFalse result ((chunks.new ≡ chunks.old) × (pool.new ≡ pool.old)) }
-    ensures full { OnFalse result (0 < length chunks.old → (last_of chunks.old).kind ≡ Bytes → (last_of chunks.old).room < length bytes.now) }
+    ensures apart { OnFalse result (1 < length chunks.old → MERGE_SIZE < weight_of (last_of chunks.old) + length bytes.now) }
     ensures last { OnTrue result (length bytes.now ≤ weight_of (last_of chunks.new)) }
     ensures numbers { numbers chunks.new ≡ numbers chunks.old }
     ensures pool { FillsOnly pool.old pool.new (length bytes.now) }
@@ -44,48 +44,4 @@ pub(crate) fn fill_back(chunks: &mut ChunkList, pool: &mut Pool, bytes: &[u8]) -
     }
     chunks.put_back(pool, bytes);
     true
-}
-
-/// Puts bytes into the last chunk, where it holds few bytes with them. They are moved to its beginning first, where that
-/// is needed.
-pub(crate) fn merge_back(chunks: &mut ChunkList, pool: &mut Pool, bytes: &[u8]) -> bool
-    requires kept { AreKept chunks.old }
-    requires some { 0 < length bytes.now }
-    requires most { length bytes.now ≤ BUFFER_SIZE }
-    ensures gains { OnTrue result (Gains chunks.old chunks.new (map Byte bytes.now)) }
-    ensures same { OnFalse result ((chunks.new ≡ chunks.old) × (pool.new ≡ pool.old)) }
-    ensures apart { OnFalse result (0 < length chunks.old → MERGE_SIZE < weight_of (last_of chunks.old) + length bytes.now) }
-    ensures last { OnTrue result (length bytes.now ≤ weight_of (last_of chunks.new)) }
-    ensures numbers { numbers chunks.new ≡ numbers chunks.old }
-    ensures pool { FillsOnly pool.old pool.new MERGE_SIZE }
-{
-    let Some((held, room)) = last_memory(chunks) else {
-        return false;
-    };
-    if MERGE_SIZE < held + bytes.len() {
-        return false;
-    }
-    if room < bytes.len() {
-        chunks.pack_back(pool);
-        chunks.put_back(pool, bytes);
-        return true;
-    }
-    chunks.put_back(pool, bytes);
-    true
-}
-
-/// Puts bytes into the last chunk, where there is room for all of them, or where it holds few bytes with them.
-pub(crate) fn absorb_back(chunks: &mut ChunkList, pool: &mut Pool, bytes: &[u8]) -> bool
-    requires kept { AreKept chunks.old }
-    requires some { 0 < length bytes.now }
-    requires most { length bytes.now ≤ BUFFER_SIZE }
-    ensures gains { OnTrue result (Gains chunks.old chunks.new (map Byte bytes.now)) }
-    ensures same { OnFalse result ((chunks.new ≡ chunks.old) × (pool.new ≡ pool.old)) }
-    ensures full { OnFalse result (0 < length chunks.old → (last_of chunks.old).kind ≡ Bytes → (last_of chunks.old).room < length bytes.now) }
-    ensures apart { OnFalse result (0 < length chunks.old → MERGE_SIZE < weight_of (last_of chunks.old) + length bytes.now) }
-    ensures last { OnTrue result (length bytes.now ≤ weight_of (last_of chunks.new)) }
-    ensures numbers { numbers chunks.new ≡ numbers chunks.old }
-    ensures pool { FillsOnly pool.old pool.new (max (length bytes.now) MERGE_SIZE) }
-{
-    fill_back(chunks, pool, bytes) || merge_back(chunks, pool, bytes)
 }

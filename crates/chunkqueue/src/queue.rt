@@ -1,5 +1,4 @@
 //! What every chunk queue does.
-use crate::merging::MERGE_SIZE;
 use buffer_pool::BUFFER_SIZE;
 use lt_bytes::NoMemory;
 use lt_world::{Fault, FileId, Files, Owner};
@@ -39,7 +38,7 @@ pub trait Queue {
         ensures staged { staged_of (contents self.new) ≡ staged_of (contents self.old) }
         ensures spare { length bytes.now ≤ BUFFER_SIZE * length (stored store.old).free → IsOk result }
         ensures dense { dense (contents self.new) }
-        ensures filled { (stored store.new).filled ≤ (stored store.old).filled + length bytes.now + MERGE_SIZE }
+        ensures filled { (stored store.new).filled ≤ (stored store.old).filled + length bytes.now }
         ensures kept { Kept (stored store.old) (contents self.old).numbers (stored store.new) (contents self.new).numbers };
 
     /// Appends a range of an opened file. A range of no bytes appends nothing.
@@ -71,6 +70,8 @@ pub trait Queue {
             staged_behind (items_of (contents self.old)) (staged_of (contents self.old)) (staged_of (contents from.old)) }
         ensures dense { dense (contents self.new) × dense (contents from.new) }
         ensures filled { (stored store.new).filled ≤ (stored store.old).filled + 2 * BUFFER_SIZE }
+        // What moves is copied once at most.
+        ensures moves { (stored store.new).filled ≤ (stored store.old).filled + count_of (contents from.old) }
         ensures kept { Kept (stored store.old) ((contents self.old).numbers ++ (contents from.old).numbers)
             (stored store.new) (contents self.new).numbers };
 
@@ -89,6 +90,7 @@ pub trait Queue {
         ensures spare { min (min n (count_of (contents from.old) - n)) 1 ≤ length (stored store.old).free → IsOk result }
         ensures dense { dense (contents self.new) × dense (contents from.new) }
         ensures filled { (stored store.new).filled ≤ (stored store.old).filled + 3 * BUFFER_SIZE }
+        ensures moves { (stored store.new).filled + count_of (contents from.new) ≤ (stored store.old).filled + count_of (contents from.old) }
         ensures kept { Kept (stored store.old) ((contents self.old).numbers ++ (contents from.old).numbers)
             (stored store.new) ((contents self.new).numbers ++ (contents from.new).numbers) };
 

@@ -25,6 +25,7 @@ pub(crate) fn steal_chunks(chunks: &mut ChunkList, pool: &mut Pool, from: &mut C
     ensures left { items_of_chunks from.new ≡ drop n (items_of_chunks from.old) }
     ensures staged { staged_of_chunks chunks.new ≡ staged_of_chunks chunks.old }
     ensures filled { pool.new.filled ≤ pool.old.filled + 3 * BUFFER_SIZE }
+    ensures moves { pool.new.filled ≤ pool.old.filled + n }
     ensures kept { Kept pool.old (numbers chunks.old ++ numbers from.old) pool.new (numbers chunks.new ++ numbers from.new) }
 {
     unstage(from);
@@ -46,6 +47,7 @@ fn steal_whole(chunks: &mut ChunkList, pool: &mut Pool, from: &mut ChunkList, n:
     ensures len { length chunks.new + length from.new ≤ length chunks.old + length from.old }
     ensures spare { length pool.old.free ≤ length pool.new.free }
     ensures filled { pool.new.filled ≤ pool.old.filled + 2 * BUFFER_SIZE }
+    ensures moves { pool.new.filled + result ≤ pool.old.filled + n }
     ensures kept { Kept pool.old (numbers chunks.old ++ numbers from.old) pool.new (numbers chunks.new ++ numbers from.new) }
 {
     let mut front = ChunkList::new();
@@ -109,6 +111,7 @@ fn split_front(chunks: &mut ChunkList, pool: &mut Pool, from: &mut ChunkList, n:
     ensures numbers { numbers from.new ≡ numbers from.old }
     ensures len { length chunks.new ≤ length chunks.old + 1 }
     ensures filled { pool.new.filled ≤ pool.old.filled + BUFFER_SIZE }
+    ensures moves { pool.new.filled ≤ pool.old.filled + n }
     ensures kept { Kept pool.old (numbers chunks.old) pool.new (numbers chunks.new) }
 {
     match front_kind(from) {

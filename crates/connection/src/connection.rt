@@ -1,5 +1,5 @@
 //! A connection and its calls.
-ghost use Rattle.std.specs.Prelude.{◌≡◌, ◌+◌, ◌-◌, ◌^◌, ◌≤◌, ◌<◌, ◌++◌, [], drop, length, map, None, Some, true, false, nat_lt, option_map, if◌then◌else◌, IsOk, IfOk, OnOk, OnErr};
+ghost use Rattle.std.specs.Prelude.{◌≡◌, ◌+◌, ◌-◌, ◌*◌, ◌^◌, ◌≤◌, ◌<◌, ◌++◌, [], drop, length, map, None, Some, true, false, nat_lt, option_map, if◌then◌else◌, IsOk, IfOk, OnOk, OnErr};
 ghost use Rattle.buffer_pool.specs.Kept.{Kept, HeldWithin};
 ghost use Rattle.lt_world.specs.Causes.{Rose};
 ghost use Rattle.chunkqueue.specs.Items.{Byte, Leads, Shows, AllLie, empty, items_of, count_of, staged_of};
@@ -125,6 +125,7 @@ impl Conn {
         requires room { length bytes.now ≤ room_of self.old.held }
         ensures ok { OnOk result (self.new.held ≡ received self.old.held bytes.now) }
         ensures err { OnErr result (self.new.held ≡ self.old.held) }
+        ensures filled { store.new.filled ≤ store.old.filled + length bytes.now }
         ensures kept { Kept store.old self.old.numbers store.new self.new.numbers }
     {
         self.input.push_bytes(store, bytes)
@@ -148,6 +149,7 @@ impl Conn {
         ensures stage { IfOk result (λ stage. stage ≡ stage_of self.new.held) }
         ensures err { OnErr result (IsHeldUp self.old.held self.new.held × (looks self.old.held ≡ true)) }
         ensures exact { OnErr result (is_taking self.old.held.stage ≡ false → self.new ≡ self.old) }
+        ensures filled { store.new.filled ≤ store.old.filled + INPUT_LIMIT }
         ensures kept { Kept store.old self.old.numbers store.new self.new.numbers }
     {
         if let Some(number) = self.next_number() {
@@ -181,6 +183,7 @@ impl Conn {
         requires feeds { feeds self.old.held ≡ true }
         ensures ok { OnOk result (self.new.held ≡ advanced self.old.held) }
         ensures err { OnErr result (IsHeldUp self.old.held self.new.held) }
+        ensures filled { store.new.filled ≤ store.old.filled + INPUT_LIMIT }
         ensures kept { Kept store.old self.old.numbers store.new self.new.numbers }
     {
         if self.body.len() >= CONTENT_LIMIT {
@@ -238,6 +241,7 @@ impl Conn {
         ensures ok { OnOk result (self.new.held ≡ looked number self.old.held) }
         ensures stage { IfOk result (λ stage. stage ≡ stage_of self.new.held) }
         ensures err { OnErr result (self.new ≡ self.old) }
+        ensures filled { store.new.filled ≡ store.old.filled }
         ensures kept { Kept store.old self.old.numbers store.new self.new.numbers }
     {
         let found = look(self.alloc, &self.input)?;
@@ -254,6 +258,7 @@ impl Conn {
         requires heading { is_heading self.old.held.stage ≡ true }
         ensures ok { OnOk result (self.new.held ≡ accepted self.old.held limit) }
         ensures err { OnErr result (self.new.held ≡ self.old.held) }
+        ensures filled { store.new.filled ≤ store.old.filled + 25 }
         ensures kept { Kept store.old self.old.numbers store.new self.new.numbers }
     {
         let Progress::Heading(request) = &self.progress else {
@@ -272,6 +277,7 @@ impl Conn {
         requires fits { count_of into.old < 2 ^ 62 }
         ensures held { self.new.held ≡ without_content self.old.held }
         ensures moved { items_of into.new ≡ items_of into.old ++ map Byte (content_at self.old.held.stage) }
+        ensures filled { store.new.filled ≤ store.old.filled + 2 * BUFFER_SIZE }
         ensures kept { Kept store.old (self.old.numbers ++ into.old.numbers) store.new (self.new.numbers ++ into.new.numbers) }
     {
         into.append_all(store, &mut self.body);
@@ -312,6 +318,7 @@ impl Conn {
         ensures ok { OnOk result (self.new.held ≡ answered self.old.held (map Byte head.now ++ items_of body.old) (file_number file) last) }
         ensures moved { OnOk result (body.new ≡ empty) }
         ensures err { OnErr result ((self.new.held ≡ holding self.old.held (file_number file)) × (body.new ≡ body.old)) }
+        ensures filled { store.new.filled ≤ store.old.filled + length head.now + 2 * BUFFER_SIZE }
         ensures kept { Kept store.old (self.old.numbers ++ body.old.numbers) store.new (self.new.numbers ++ body.new.numbers) }
     {
         self.file = file;
@@ -343,6 +350,7 @@ impl Conn {
         ensures disk { F.tells → F.disk files.new ≡ F.disk files.old }
         ensures faults { F.faults files.old ≤ F.faults files.new }
         ensures later { F.later files.old files.new }
+        ensures filled { store.new.filled ≤ store.old.filled + BUFFER_SIZE }
         ensures kept { Kept store.old self.old.numbers store.new self.new.numbers }
     {
         let owner = self.owner();
@@ -364,6 +372,7 @@ impl Conn {
         requires within { n ≤ length self.old.front }
         ensures held { self.new.held ≡ wrote self.old.held n }
         ensures file { file_number result ≡ (if has_no_items (drop n self.old.held.owed) then self.old.held.file else None) }
+        ensures filled { store.new.filled ≡ store.old.filled }
         ensures kept { Kept store.old self.old.numbers store.new self.new.numbers }
     {
         self.output.advance(store, n);
@@ -377,6 +386,7 @@ impl Conn {
     pub fn close(self, store: &mut Store) -> Option<FileId>
         requires { HeldWithin store.old (length self.numbers) }
         ensures file { file_number result ≡ self.held.file }
+        ensures filled { store.new.filled ≡ store.old.filled }
         ensures kept { Kept store.old self.numbers store.new [] }
     {
         let Conn {

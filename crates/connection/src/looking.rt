@@ -62,7 +62,8 @@ fn is_accepted(framing: Framing, limit: u64) -> bool
 
 /// What a client is told first, where it waits for that (RFC 9110, sections 10.1.1 and 15.2.1).
 pub(crate) fn continue_bytes(request: &Request, limit: u64) -> &'static [u8]
-    ensures { result.now ≡ continue_bytes request.now limit }
+    ensures bytes { result.now ≡ continue_bytes request.now limit }
+    ensures most { length result.now ≤ 25 }
 {
     if request.expect && is_accepted(request.framing, limit) {
         b"HTTP/1.1 100 Continue\r\n\r\n"
@@ -122,6 +123,7 @@ pub(crate) fn skip(input: &mut Chunks, store: &mut Store, n: usize)
     requires memory { is_in_memory (items_of input.old) ≡ true }
     requires within { n ≤ count_of input.old }
     ensures items { items_of input.new ≡ drop n (items_of input.old) }
+    ensures filled { store.new.filled ≡ store.old.filled }
     ensures kept { Kept store.old input.old.numbers store.new input.new.numbers }
 {
     let mut left = n;

@@ -15,6 +15,7 @@ ghost use Rattle.conf_parse.specs.declared.tree.Tree.{Tree};
 ghost use Rattle.conf_parse.specs.Print.{printed};
 ghost use Rattle.server_model.specs.Files.{IsTable, Backs};
 ghost use Rattle.server_model.specs.Serves.{Serves};
+ghost use Rattle.server_core.specs.Within.{serving_at};
 ghost use Rattle.lighttpd.specs.Runs.{FinishFits, Served};
 ghost use Rattle.lighttpd.specs.Endings.{AllEndCalmly};
 ghost use Rattle.lighttpd.specs.Words.{Line, SpellsLine, Replay as replay_line, Print as print_line};
@@ -136,7 +137,7 @@ fn play<S: Sink>(server: Server, net: &mut ScriptNet, files: &mut MemFiles, sink
     requires begins { net.old.game.trace ≡ [] }
     requires table { (links : ℕ) → IsTable links server.table }
     requires backs { (disk : Disk) → Backs disk.table server.table }
-    requires serves { (disk : Disk) → disk.calls ≡ [] → ((file : ℕ) → disk.table file ≡ None) → Serves disk server [] }
+    requires serves { (disk : Disk) → disk.calls ≡ [] → ((file : ℕ) → disk.table file ≡ None) → Serves disk (serving_at server) [] }
     ensures serves { Served server.root (tree_of files.old) files.new.calls net.new.game.trace }
     ensures ends { PlaySays result net.new.last }
     ensures calm { (steps : List Step) → net.old ≡ unplayed steps → IsCalm steps → AllEndCalmly net.new.game.trace }
@@ -159,7 +160,7 @@ fn serve(server: Server, net: &mut ScriptNet, files: &mut MemFiles) -> Finish
     requires begins { net.old.game.trace ≡ [] }
     requires table { (links : ℕ) → IsTable links server.table }
     requires backs { (disk : Disk) → Backs disk.table server.table }
-    requires serves { (disk : Disk) → disk.calls ≡ [] → ((file : ℕ) → disk.table file ≡ None) → Serves disk server [] }
+    requires serves { (disk : Disk) → disk.calls ≡ [] → ((file : ℕ) → disk.table file ≡ None) → Serves disk (serving_at server) [] }
     ensures serves { Served server.root (tree_of files.old) files.new.calls net.new.game.trace }
     ensures last { FinishFits result net.new.last }
     ensures over { result ≡ Finish.Over → events_left net.new.game.left ≡ 0 }

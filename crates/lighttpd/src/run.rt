@@ -2,6 +2,7 @@
 ghost use Rattle.std.specs.Prelude.{◌≡◌, ◌≤◌};
 ghost use Rattle.server_model.specs.Files.{IsTable, Backs};
 ghost use Rattle.server_model.specs.Serves.{Serves};
+ghost use Rattle.server_core.specs.Within.{serving_at};
 ghost use Rattle.server_model.specs.Runs.{IsRun};
 ghost use Rattle.lighttpd.specs.Runs.{FinishFits, told_as};
 
@@ -20,8 +21,8 @@ pub fn run<N: Net, F: Files>(server: &mut Server, net: &mut N, files: &mut F) ->
     requires ends { N.ends }
     requires table { IsTable (N.links net.old) server.old.table }
     requires backs { F.tells → Backs (F.disk files.old).table server.old.table }
-    ensures serves { N.tells → F.tells → Serves (F.disk files.old) server.old (N.trace net.old) → Serves (F.disk files.new) server.new (N.trace net.new) }
-    ensures run { N.tells → F.tells → Serves (F.disk files.old) server.old (N.trace net.old) → IsRun server.old.root
+    ensures serves { N.tells → F.tells → Serves (F.disk files.old) (serving_at server.old) (N.trace net.old) → Serves (F.disk files.new) (serving_at server.new) (N.trace net.new) }
+    ensures run { N.tells → F.tells → Serves (F.disk files.old) (serving_at server.old) (N.trace net.old) → IsRun server.old.root
         (told_as (F.disk files.old) (F.faults files.old) (F.failed_read files.old) (N.trace net.old))
         (told_as (F.disk files.new) (F.faults files.new) (F.failed_read files.new) (N.trace net.new)) }
     ensures root { server.new.root ≡ server.old.root }

@@ -6,7 +6,6 @@ ghost use Rattle.lt_http_body.specs.Standings.{begin, is_over, is_in_line, answe
 ghost use Rattle.lt_http_body.specs.Reading.{standing_after, data_in, taken_in};
 ghost use Rattle.lt_http_body.specs.Feeding.{AllInMemory, bytes_of, Reads, Takes, UnlessNoMemory};
 
-use crate::limits::FILLED_BY_STEAL;
 use crate::standing::Standing;
 use chunkqueue::{Chunks, Queue, Store};
 use http_head::Framing;
@@ -76,7 +75,7 @@ impl Body {
         ensures data { UnlessNoMemory result (items_of body.new ≡ items_of body.old ++ map Byte (data_in self.old (bytes_of input.old))) }
         ensures rest { UnlessNoMemory result (items_of input.new ≡ drop (taken_in self.old (bytes_of input.old)) (items_of input.old)) }
         ensures takes { Takes self.old input.old body.old self.new input.new body.new }
-        ensures filled { store.new.filled ≤ store.old.filled + FILLED_BY_STEAL * (count_of input.old - count_of input.new + 1) }
+        ensures filled { store.new.filled + count_of input.new ≤ store.old.filled + count_of input.old }
         ensures kept { Kept store.old (body.old.numbers ++ input.old.numbers) store.new (body.new.numbers ++ input.new.numbers) }
     {
         while !self.is_over() && input.len() > 0 {
@@ -115,7 +114,7 @@ impl Body {
         requires open { is_over self.old.state ≡ false }
         ensures less { OnOk result (count_of input.new < count_of input.old) }
         ensures takes { Takes self.old input.old body.old self.new input.new body.new }
-        ensures filled { store.new.filled ≤ store.old.filled + FILLED_BY_STEAL }
+        ensures filled { store.new.filled + count_of input.new ≤ store.old.filled + count_of input.old }
         ensures kept { Kept store.old (body.old.numbers ++ input.old.numbers) store.new (body.new.numbers ++ input.new.numbers) }
     {
         if self.standing.is_in_line() {
@@ -154,7 +153,7 @@ impl Body {
         requires line { is_in_line self.old.state ≡ false }
         ensures less { OnOk result (count_of input.new < count_of input.old) }
         ensures takes { Takes self.old input.old body.old self.new input.new body.new }
-        ensures filled { store.new.filled ≤ store.old.filled + FILLED_BY_STEAL }
+        ensures filled { store.new.filled + count_of input.new ≤ store.old.filled + count_of input.old }
         ensures kept { Kept store.old (body.old.numbers ++ input.old.numbers) store.new (body.new.numbers ++ input.new.numbers) }
     {
         let n = self.standing.left().min(input.len());

@@ -15,7 +15,7 @@ mod trailer;
 
 pub use body::{Body, BodyRefusal, BodyState};
 pub use http_head::Framing;
-pub use limits::{EXTENSION_LIMIT, FILLED_BY_STEAL, SIZE_DIGITS, TRAILER_LIMIT};
+pub use limits::{EXTENSION_LIMIT, SIZE_DIGITS, TRAILER_LIMIT};
 
 #[cfg(test)]
 mod tests;

@@ -1,6 +1,4 @@
 //! The limits on the chunked form.
-use chunkqueue::BUFFER_SIZE;
-
 /// The most hexadecimal digits that a chunk's size may have.
 pub const SIZE_DIGITS: u32 = 15;
 
@@ -9,6 +7,3 @@ pub const EXTENSION_LIMIT: u32 = 256;
 
 /// The most bytes that the trailer may have, with the empty line that ends it.
 pub const TRAILER_LIMIT: u32 = 8_192;
-
-/// How many bytes at most are copied into buffers where the first items of a queue go behind another.
-pub const FILLED_BY_STEAL: usize = 3 * BUFFER_SIZE;

@@ -1,5 +1,5 @@
 //! The server, and its turns.
-ghost use Rattle.std.specs.Prelude.{◌≡◌, ◌≤◌, ℕ, List, [], IfOk, None};
+ghost use Rattle.std.specs.Prelude.{◌≡◌, ◌+◌, ◌≤◌, ℕ, List, [], IfOk, None};
 ghost use Rattle.buffer_pool.specs.Kept.{HeldWithin};
 ghost use Rattle.lt_world.specs.Disk.{Disk};
 ghost use Rattle.lt_world.specs.Trace.{Entry};
@@ -7,6 +7,7 @@ ghost use Rattle.server_model.specs.Files.{IsTable, Backs};
 ghost use Rattle.server_model.specs.Serves.{Serves};
 ghost use Rattle.server_core.specs.Steps.{seen_as};
 ghost use Rattle.server_core.specs.Table.{helds, held_count, all_freed};
+ghost use Rattle.server_core.specs.Within.{serving_at};
 ghost use Rattle.server_core.specs.Turns.{Turned, OnRest, KindFits, Uses};
 
 use crate::client::Client;
@@ -29,13 +30,13 @@ pub struct Server {
 }
 
 impl Model for Server {
-    ghost use Rattle.server_model.specs.Held.{Serving};
+    ghost use Rattle.server_core.specs.Within.{Running};
 
-    ghost Value = { Serving };
+    ghost Value = { Running };
 
-    ghost use Rattle.server_core.specs.Within.{serving_of, IsServer};
+    ghost use Rattle.server_core.specs.Within.{running_of, IsServer};
 
-    ghost view = { serving_of };
+    ghost view = { running_of };
 
     ghost invariant = { IsServer };
 }
@@ -47,7 +48,7 @@ impl Server {
         ensures empty { IfOk result (λ server. server.table ≡ []) }
         ensures table { IfOk result (λ server. (links : ℕ) → IsTable links server.table) }
         ensures backs { IfOk result (λ server. (disk : Disk) → Backs disk.table server.table) }
-        ensures serves { IfOk result (λ server. (disk : Disk) → disk.calls ≡ [] → ((file : ℕ) → disk.table file ≡ None) → Serves disk server []) }
+        ensures serves { IfOk result (λ server. (disk : Disk) → disk.calls ≡ [] → ((file : ℕ) → disk.table file ≡ None) → Serves disk (serving_at server) []) }
     {
         Ok(Server {
             site: Site {
@@ -69,11 +70,14 @@ impl Server {
         ensures backs { F.tells → Backs (F.disk files.new).table self.new.table }
 
         // The server stands for what the net and the files tell, and what was due for the event was done.
-        ensures serves { N.tells → F.tells → Serves (F.disk files.old) self.old (N.trace net.old) →
-            Serves (F.disk files.new) self.new (N.trace net.new) ×
+        ensures serves { N.tells → F.tells → Serves (F.disk files.old) (serving_at self.old) (N.trace net.old) →
+            Serves (F.disk files.new) (serving_at self.new) (N.trace net.new) ×
             Turned result self.old.root (seen_as (F.disk files.old) (F.faults files.old) (F.failed_read files.old))
             (seen_as (F.disk files.new) (F.faults files.new) (F.failed_read files.new)) (N.trace net.old) (N.trace net.new) }
         ensures root { self.new.root ≡ self.old.root }
+
+        // Bodies move: few bytes are put into buffers or moved in them, whatever their size.
+        ensures filled { self.new.filled ≤ self.old.filled + 262144 }
 
         // The answer is that of the net, and without an event nothing changes.
         ensures last { KindFits result (N.last net.new) }
@@ -132,7 +136,7 @@ impl Server {
         ensures disk { F.tells → F.disk files.new ≡ all_freed self.table (F.disk files.old) }
 
         // Where it serves, no file is open then.
-        ensures none_open { F.tells → (trace : List Entry) → Serves (F.disk files.old) self trace → (file : ℕ) → (F.disk files.new).table file ≡ None }
+        ensures none_open { F.tells → (trace : List Entry) → Serves (F.disk files.old) (serving_at self) trace → (file : ℕ) → (F.disk files.new).table file ≡ None }
         ensures faults { F.faults files.old ≤ F.faults files.new }
         ensures failed_read { F.tells → F.failed_read files.new ≡ F.failed_read files.old }
         ensures later { F.later files.old files.new }

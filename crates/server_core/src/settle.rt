@@ -1,5 +1,5 @@
 //! What follows once bytes came or were taken: a request that is there by then is answered.
-ghost use Rattle.std.specs.Prelude.{◌≡◌, ◌≢◌, ℕ, ◌+◌, ◌-◌, ◌≤◌, ◌<◌, ◌^◌, ◌++◌, List, [], length, map, None, true, false};
+ghost use Rattle.std.specs.Prelude.{◌≡◌, ◌≢◌, ℕ, ◌+◌, ◌-◌, ◌*◌, ◌≤◌, ◌<◌, ◌^◌, ◌++◌, List, [], length, map, None, true, false};
 ghost use Rattle.buffer_pool.specs.Kept.{Kept, HeldWithin};
 ghost use Rattle.lt_world.specs.Disk.{Disk};
 ghost use Rattle.chunkqueue.specs.Items.{Byte, items_of, staged_of, count_of};
@@ -19,13 +19,21 @@ ghost use Rattle.server_core.specs.Steps.{is_idle, IsFree, IsAdvanced, WaitsOn, 
 
 use crate::form::Form;
 use crate::plan::{Planned, plan};
+use crate::replies::REPLY_LIMIT;
 use crate::site::Site;
-use chunkqueue::{Chunks, Queue, Store};
-use connection::{Conn, Stage};
+use chunkqueue::{BUFFER_SIZE, Chunks, Queue, Store};
+use connection::{Conn, INPUT_LIMIT, Stage};
 use lt_world::{Ending, FileId, Files};
 
 /// Bytes of a request's body, at most: the default of `server.max-request-size`, 1,024 KiB.
 const BODY_LIMIT: u64 = 1_048_576;
+
+// Bytes that are copied into buffers for a reply, at most: its head, and those of two chunks of its body.
+const REPLY_FILL: usize = REPLY_LIMIT + 2 * BUFFER_SIZE;
+
+/// Bytes that are copied into buffers for what follows a read or a write, at most: what is held of the input, once before a
+/// head is there and once behind it, what is told of a body that is waited for, and a reply.
+pub(crate) const SETTLE_FILL: usize = INPUT_LIMIT + INPUT_LIMIT + 25 + REPLY_FILL;
 
 /// Takes the next step that the bytes which came allow, and answers the request that is there then. Answers how the client
 /// is to be closed, where it is.
@@ -42,6 +50,7 @@ pub(crate) fn settle<F: Files>(
     ensures settles { SettlesTo (looks conn.old.held) site.now.root conn.old.held conn.new.held result F.tells (F.disk files.old) (F.disk files.new) }
     ensures link { conn.new.held.link ≡ conn.old.held.link }
     ensures waits { WaitsOn result conn.new.held }
+    ensures filled { store.new.filled ≤ store.old.filled + SETTLE_FILL }
     ensures kept { Kept store.old conn.old.numbers store.new conn.new.numbers }
     ensures faults { F.faults files.old ≤ F.faults files.new }
     ensures later { F.later files.old files.new }
@@ -69,6 +78,7 @@ fn read_body<F: Files>(
     ensures settles { SettlesTo true site.now.root conn.old.held conn.new.held result F.tells (F.disk files.old) (F.disk files.new) }
     ensures link { conn.new.held.link ≡ conn.old.held.link }
     ensures waits { WaitsOn result conn.new.held }
+    ensures filled { store.new.filled ≤ store.old.filled + INPUT_LIMIT + 25 + REPLY_FILL }
     ensures kept { Kept store.old conn.old.numbers store.new conn.new.numbers }
     ensures faults { F.faults files.old ≤ F.faults files.new }
     ensures later { F.later files.old files.new }
@@ -99,6 +109,7 @@ fn go_on<F: Files>(
     ensures settles { SettlesTo (is_asking conn.old.held.stage) site.now.root conn.old.held conn.new.held result F.tells (F.disk files.old) (F.disk files.new) }
     ensures link { conn.new.held.link ≡ conn.old.held.link }
     ensures waits { WaitsOn result conn.new.held }
+    ensures filled { store.new.filled ≤ store.old.filled + REPLY_FILL }
     ensures kept { Kept store.old conn.old.numbers store.new conn.new.numbers }
     ensures faults { F.faults files.old ≤ F.faults files.new }
     ensures later { F.later files.old files.new }
@@ -131,6 +142,7 @@ fn respond<F: Files>(
     ensures settles { SettlesTo true site.now.root conn.old.held conn.new.held result F.tells (F.disk files.old) (F.disk files.new) }
     ensures link { conn.new.held.link ≡ conn.old.held.link }
     ensures waits { WaitsOn result conn.new.held }
+    ensures filled { store.new.filled ≤ store.old.filled + REPLY_FILL }
     ensures kept { Kept store.old conn.old.numbers store.new conn.new.numbers }
     ensures faults { F.faults files.old ≤ F.faults files.new }
     ensures later { F.later files.old files.new }
@@ -164,6 +176,7 @@ fn serve<F: Files>(
         SettlesTo true site.now.root conn.old.held conn.new.held result F.tells before (F.disk files.new) }
     ensures link { conn.new.held.link ≡ conn.old.held.link }
     ensures waits { WaitsOn result conn.new.held }
+    ensures filled { store.new.filled ≤ store.old.filled + REPLY_FILL }
     ensures kept { Kept store.old conn.old.numbers store.new conn.new.numbers }
     ensures faults { F.faults files.old ≤ F.faults files.new }
     ensures later { F.later files.old files.new }
@@ -190,6 +203,7 @@ fn refuse(
     ensures given { GivenBy result conn.old.held conn.new.held (map Byte (error_bytes form.minor status form.last form.head_only)) None form.last }
     ensures link { conn.new.held.link ≡ conn.old.held.link }
     ensures waits { WaitsOn result conn.new.held }
+    ensures filled { store.new.filled ≤ store.old.filled + REPLY_FILL }
     ensures kept { Kept store.old conn.old.numbers store.new conn.new.numbers }
 {
     let Ok(text) = site.replies.error(site.alloc, form, status) else {
@@ -219,6 +233,7 @@ fn send_file<F: Files>(
         SettlesTo true site.now.root conn.old.held conn.new.held result F.tells before (F.disk files.new) }
     ensures link { conn.new.held.link ≡ conn.old.held.link }
     ensures waits { WaitsOn result conn.new.held }
+    ensures filled { store.new.filled ≤ store.old.filled + REPLY_FILL }
     ensures kept { Kept store.old conn.old.numbers store.new conn.new.numbers }
     ensures faults { F.faults files.old ≤ F.faults files.new }
     ensures later { F.later files.old files.new }
@@ -260,6 +275,7 @@ fn give(
     ensures given { GivenBy result conn.old.held conn.new.held (map Byte head.now ++ items_of body) (file_number file) last }
     ensures link { conn.new.held.link ≡ conn.old.held.link }
     ensures waits { WaitsOn result conn.new.held }
+    ensures filled { store.new.filled ≤ store.old.filled + length head.now + 2 * BUFFER_SIZE }
     ensures kept { Kept store.old (conn.old.numbers ++ body.numbers) store.new conn.new.numbers }
 {
     let mut body = body;

@@ -1,5 +1,5 @@
 //! One read or one write for one client, and what follows from it.
-ghost use Rattle.std.specs.Prelude.{◌≡◌, ◌≤◌, ◌<◌, [], ◌∷◌, length, true};
+ghost use Rattle.std.specs.Prelude.{◌≡◌, ◌+◌, ◌≤◌, ◌<◌, [], ◌∷◌, length, true};
 ghost use Rattle.buffer_pool.specs.Kept.{Kept, HeldWithin};
 ghost use Rattle.lt_world.specs.Trace.{Close, said};
 ghost use Rattle.server_model.specs.Files.{Drops, Fits};
@@ -9,16 +9,20 @@ ghost use Rattle.server_model.specs.Turns.{Seen, GoesBy};
 ghost use Rattle.server_model.specs.Steps.{room_of, wants_read, wrote};
 ghost use Rattle.server_core.specs.Steps.{IsResting, WaitsOn, FailsFor, done_file, seen_as};
 
-use crate::settle::settle;
+use crate::settle::{SETTLE_FILL, settle};
 use crate::site::Site;
 use chunkqueue::{BUFFER_SIZE, Store};
 use connection::Conn;
 use lt_world::{Ending, Files, Got, Net, Took};
 
+/// Bytes that are copied into buffers in one turn, at most: those of one read or of one range, and those of what follows.
+pub(crate) const TURN_FILL: usize = BUFFER_SIZE + SETTLE_FILL;
+
 /// Ends a connection, and gives the file back that it keeps.
 pub(crate) fn release<F: Files>(conn: Conn, store: &mut Store, files: &mut F)
     requires { HeldWithin store.old (length conn.numbers) }
     ensures drops { F.tells → Drops conn.held.file (F.disk files.old) (F.disk files.new) }
+    ensures filled { store.new.filled ≡ store.old.filled }
     ensures kept { Kept store.old conn.numbers store.new [] }
     ensures faults { F.faults files.old ≤ F.faults files.new }
     ensures failed_read { F.tells → F.failed_read files.new ≡ F.failed_read files.old }
@@ -43,6 +47,7 @@ pub(crate) fn finish<N: Net, F: Files>(
     requires counted { HeldWithin store.old (length conn.numbers) }
     ensures trace { N.tells → N.trace net.new ≡ said conn.held.link (Close ending ∷ []) (N.trace net.old) }
     ensures drops { F.tells → Drops conn.held.file (F.disk files.old) (F.disk files.new) }
+    ensures filled { store.new.filled ≡ store.old.filled }
     ensures kept { Kept store.old conn.numbers store.new [] }
     ensures net_faults { N.faults net.old ≤ N.faults net.new }
     ensures wait_faults { N.wait_faults net.new ≡ N.wait_faults net.old }
@@ -76,6 +81,7 @@ pub(crate) fn read_for<N: Net, F: Files>(
         (F.disk files.old) (F.disk files.new) (N.trace net.old) (N.trace net.new) }
     ensures link { conn.new.held.link ≡ conn.old.held.link }
     ensures waits { WaitsOn result conn.new.held }
+    ensures filled { store.new.filled ≤ store.old.filled + TURN_FILL }
     ensures kept { Kept store.old conn.old.numbers store.new conn.new.numbers }
     ensures calls { 0 < N.calls net.new }
     ensures net_faults { N.faults net.old ≤ N.faults net.new }
@@ -120,10 +126,12 @@ fn receive<N: Net, F: Files>(
     requires wants { wants_read conn.old.held ≡ true }
     requires some { 0 < length buf.old }
     requires within { length buf.old ≤ room_of conn.old.held }
+    requires most { length buf.old ≤ BUFFER_SIZE }
     ensures goes { GoesBy Stands DueRead site.now.root conn.old.held conn.new.held result N.tells F.tells
         (F.disk files.old) (F.disk files.new) (N.trace net.old) (N.trace net.new) }
     ensures link { conn.new.held.link ≡ conn.old.held.link }
     ensures waits { WaitsOn result conn.new.held }
+    ensures filled { store.new.filled ≤ store.old.filled + TURN_FILL }
     ensures kept { Kept store.old conn.old.numbers store.new conn.new.numbers }
     ensures calls { 0 < N.calls net.new }
     ensures net_faults { N.faults net.old ≤ N.faults net.new }
@@ -171,6 +179,7 @@ pub(crate) fn write_for<N: Net, F: Files>(
         site.now.root conn.old.held conn.new.held result N.tells F.tells (F.disk files.old) (F.disk files.new) (N.trace net.old) (N.trace net.new) }
     ensures link { conn.new.held.link ≡ conn.old.held.link }
     ensures waits { WaitsOn result conn.new.held }
+    ensures filled { store.new.filled ≤ store.old.filled + TURN_FILL }
     ensures kept { Kept store.old conn.old.numbers store.new conn.new.numbers }
     ensures calls { 0 < N.calls net.new }
     ensures net_faults { N.faults net.old ≤ N.faults net.new }
@@ -204,6 +213,7 @@ fn wrote<F: Files>(conn: &mut Conn, store: &mut Store, files: &mut F, n: usize)
     requires within { n ≤ length conn.old.front }
     ensures held { conn.new.held ≡ wrote conn.old.held n }
     ensures drops { F.tells → Drops (done_file conn.old.held n) (F.disk files.old) (F.disk files.new) }
+    ensures filled { store.new.filled ≡ store.old.filled }
     ensures kept { Kept store.old conn.old.numbers store.new conn.new.numbers }
     ensures faults { F.faults files.old ≤ F.faults files.new }
     ensures later { F.later files.old files.new }

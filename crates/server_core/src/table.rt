@@ -1,5 +1,5 @@
 //! The table of clients, in the order of their links, and what each event of a link does in it.
-ghost use Rattle.std.specs.Prelude.{◌≡◌, ◌≤◌, ◌<◌};
+ghost use Rattle.std.specs.Prelude.{◌≡◌, ◌+◌, ◌≤◌, ◌<◌};
 ghost use Rattle.lt_world.specs.Trace.{Accepted, Readable, Writable};
 ghost use Rattle.server_model.specs.Held.{IsPlace};
 ghost use Rattle.server_model.specs.Files.{IsTable, Backs};
@@ -9,7 +9,7 @@ ghost use Rattle.server_core.specs.Table.{helds, serving, Rising, IsKept};
 
 use crate::client::Client;
 use crate::site::Site;
-use crate::step::{finish, read_for, write_for};
+use crate::step::{TURN_FILL, finish, read_for, write_for};
 use chunkqueue::{BUFFER_SIZE, Store};
 use connection::Conn;
 use lt_world::{Address, Ending, Files, Link, Net};
@@ -64,6 +64,7 @@ pub(crate) fn accept_on<N: Net, F: Files>(
     ensures turn { TurnsOn (Accepted arrival.peer arrival.local) arrival.link.0 (serving site.now.root clients.old.items) (serving site.now.root clients.new.items) N.tells F.tells
         (seen_as (F.disk files.now) (F.faults files.now) (F.failed_read files.now)) (seen_as (F.disk files.now) (F.faults files.now) (F.failed_read files.now))
         (N.trace net.old) (N.trace net.new) }
+    ensures filled { store.new.filled ≡ store.old.filled }
     ensures kept { IsKept store.new clients.new.items }
     ensures table { IsTable (N.links net.new) (helds clients.new.items) }
     ensures backs { F.tells → Backs (F.disk files.now).table (helds clients.new.items) }
@@ -109,6 +110,7 @@ pub(crate) fn read_on<N: Net, F: Files>(
     ensures turn { TurnsOn Readable link.0 (serving site.now.root clients.old.items) (serving site.now.root clients.new.items) N.tells F.tells
         (seen_as (F.disk files.old) (F.faults files.old) (F.failed_read files.old)) (seen_as (F.disk files.new) (F.faults files.new) (F.failed_read files.new))
         (N.trace net.old) (N.trace net.new) }
+    ensures filled { store.new.filled ≤ store.old.filled + TURN_FILL }
     ensures kept { IsKept store.new clients.new.items }
     ensures table { IsTable (N.links net.old) (helds clients.old.items) → IsTable (N.links net.new) (helds clients.new.items) }
     ensures backs { F.tells → Backs (F.disk files.new).table (helds clients.new.items) }
@@ -147,6 +149,7 @@ pub(crate) fn write_on<N: Net, F: Files>(
     ensures turn { TurnsOn Writable link.0 (serving site.now.root clients.old.items) (serving site.now.root clients.new.items) N.tells F.tells
         (seen_as (F.disk files.old) (F.faults files.old) (F.failed_read files.old)) (seen_as (F.disk files.new) (F.faults files.new) (F.failed_read files.new))
         (N.trace net.old) (N.trace net.new) }
+    ensures filled { store.new.filled ≤ store.old.filled + TURN_FILL }
     ensures kept { IsKept store.new clients.new.items }
     ensures table { IsTable (N.links net.old) (helds clients.old.items) → IsTable (N.links net.new) (helds clients.new.items) }
     ensures backs { F.tells → Backs (F.disk files.new).table (helds clients.new.items) }

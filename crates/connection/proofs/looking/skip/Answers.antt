@@ -11,5 +11,6 @@ loop-left-preserved c =
       memory = s.memory;
       within = s.within;
       items = s.items;
+      filled = omega (arith, c.advance.ensures.filled, c.loop-left.invariant.filled);
       kept = kept_both c.args.store.now c.loop-left.store c.advance.new.store c.args.input.now.numbers c.loop-left.input.numbers c.advance.new.self.numbers c.loop-left.invariant.kept c.advance.ensures.kept;
     }

@@ -9,6 +9,7 @@ invariant-loop-left l = record {
   memory : is_in_memory (items_of l.input) ≡ true;
   within : l.left ≤ count_of l.input;
   items : drop l.left (items_of l.input) ≡ drop l.n (items_of l.initial.input);
+  filled : l.store.filled ≡ l.initial.store.filled;
   kept : Kept l.initial.store l.initial.input.numbers l.store l.input.numbers;
 }
 

@@ -5,6 +5,7 @@ use Rattle.lt_world.specs.Memory.{Stored, disk_of, tree_of, table_by, tree_by}
 use Rattle.lt_world.specs.FileRuns.{IsUnplanned}
 use Rattle.lt_world.proofs.FileLaws.{calm, stays}
 use Rattle.server_model.specs.Serves.{Serves}
+use Rattle.server_core.specs.Within.{serving_at}
 use Rattle.lighttpd.proofs.RunLemmas.{serves_all, all_freed-calls}
 use Rattle.lighttpd.proofs.offline.serve.Goals as goal
 
@@ -20,9 +21,9 @@ returns-clause-serves c =
     let after = c.run-finish.new.files in
     let fresh : before.calls ≡ [] = ap (λ (s : Stored). s.calls) c.requires.fresh in
     let empty = c.requires.serves (disk_of before) fresh (λ file. ap (λ (s : Stored). table_by s.opened file) c.requires.fresh) in
-    let start = subst (λ (t : List Entry). Serves (disk_of before) c.args.server t) (sym c.requires.begins) empty in
+    let start = subst (λ (t : List Entry). Serves (disk_of before) (serving_at c.args.server) t) (sym c.requires.begins) empty in
     let unplanned : IsUnplanned before = subst IsUnplanned (sym c.requires.fresh) (record { finds = refl; opens = refl; reads = refl }) in
     let closed : c.close.new.files.calls ≡ after.calls = ap (λ (d : Disk). d.calls) (c.close.ensures.disk tt) ∙ all_freed-calls c.run-finish.new.server.table (disk_of after) in
-    serves_all (disk_of after) (disk_of before) c.run-finish.new.server c.args.server.root (tree_of before) c.close.new.files.calls _ _ _ _ c.args.net.now.game.trace c.run-finish.new.net.game.trace
+    serves_all (disk_of after) (disk_of before) (serving_at c.run-finish.new.server) c.args.server.root (tree_of before) c.close.new.files.calls _ _ _ _ c.args.net.now.game.trace c.run-finish.new.net.game.trace
     c.requires.begins (ap (λ (s : Stored). s.faults) c.requires.fresh) (calm before after c.run-finish.ensures.files_later unplanned).1 refl fresh (c.run-finish.ensures.serves tt tt start) c.run-finish.ensures.root
     (ap tree_by (stays before after c.run-finish.ensures.files_later)) (sym closed) (c.run-finish.ensures.run tt tt start)

@@ -22,7 +22,7 @@ invariant_of-self-2 c =
       staged = staged_fits c.self.inside.output c.push_bytes.new.self (map Byte c.continue_bytes-told.result.now) c.push_bytes.ensures.staged c.in_ok-push_bytes.ensures.ok c.self.invariant.staged;
       rests = subst (λ (p : Progress). IsAt c.self.inside.number p c.push_bytes.new.self c.self.inside.file) (sym now)
           (accept_rests c.self.inside.number c.self.inside.progress head c.args.limit (begin head.framing c.args.limit) c.self.inside.output c.push_bytes.new.self c.self.inside.file c.continue_bytes-told.result.now is
-          c.self.invariant.rests c.in_ok-push_bytes.ensures.ok c.continue_bytes-told.ensures);
+          c.self.invariant.rests c.in_ok-push_bytes.ensures.ok c.continue_bytes-told.ensures.bytes);
       content = c.self.invariant.content;
       few = c.self.invariant.few;
       empty = subst (λ (p : Progress). IsContentAt p c.self.inside.body) (sym now) tt;

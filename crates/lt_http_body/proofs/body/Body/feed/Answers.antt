@@ -16,7 +16,7 @@ loop-input-preserved c =
       memory = memory_after c.loop-input.self c.take.new.self c.loop-input.input c.loop-input.body c.take.new.input c.take.new.body took.takes had.memory;
       held = omega (arith, took.kept.total, took.kept.rises, had.held, length-append c.loop-input.body.numbers c.loop-input.input.numbers, length-append c.take.new.body.numbers c.take.new.input.numbers);
       fits = omega (arith, few.1, had.fits);
-      filled = omega (arith, took.filled, c.in-Ok.ensures.less, had.filled);
+      filled = omega (arith, took.filled, had.filled);
     }
 
 pub returns-in-Err-clause-takes : goal.returns-in-Err-clause-takes

@@ -1,7 +1,6 @@
-use Rattle.std.proofs.Common.{◌+◌, ◌*◌, ◌<◌, ◌≤◌, ◌^◌, ◌++◌, length}
+use Rattle.std.proofs.Common.{◌+◌, ◌<◌, ◌≤◌, ◌^◌, ◌++◌, length}
 use Rattle.buffer_pool.specs.Kept.{Kept, HeldWithin}
 use Rattle.chunkqueue.specs.Items.{items_of, count_of}
-use Rattle.lt_http_body.specs.declared.limits.TheConstants.{FILLED_BY_STEAL}
 use Rattle.lt_http_body.specs.Feeding.{AllInMemory, Takes}
 use Rattle.lt_http_body.proofs.body.Body.feed.Given as goal
 
@@ -12,7 +11,7 @@ invariant-loop-input l = record {
   memory : AllInMemory (items_of l.input);
   held : HeldWithin l.store (length l.body.numbers + length l.input.numbers);
   fits : count_of l.body + count_of l.input < 2 ^ 63;
-  filled : l.store.filled + FILLED_BY_STEAL * count_of l.input ≤ l.initial.store.filled + FILLED_BY_STEAL * count_of l.initial.input;
+  filled : l.store.filled + count_of l.input ≤ l.initial.store.filled + count_of l.initial.input;
 }
 
 abbrev pub decreases-loop-input : goal.decreases-loop-input
