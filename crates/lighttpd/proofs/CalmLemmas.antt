@@ -12,6 +12,7 @@ use Rattle.lt_script.specs.Plays.{played}
 use Rattle.lt_script.specs.Playing.{Playing, unplayed, IsLater}
 use Rattle.lt_script.specs.Failing.{IsCalm, is_failure, NoneFailed}
 use Rattle.lt_script.proofs.Calm.{calm_never_fails}
+use Rattle.server_model.specs.Site.{Site}
 use Rattle.server_model.specs.Deeds.{Deed, Ours, is_deed, own, ours}
 use Rattle.server_model.specs.Client.{has_failed}
 use Rattle.server_model.specs.Causes.{IsCause}
@@ -52,8 +53,8 @@ calm_cause ending.GatewayCut deeds sound cause = absurd cause
 calm_cause ending.Gate deeds sound cause = absurd cause
 
 -- a run over a net that began with calm steps
-pub calm_run : (root : List ℕ) (tree : Tree) (calls : List Call) (steps : List Step) (a b : Playing) → a ≡ unplayed steps → IsLater a b → IsCalm steps → Served root tree calls b.game.trace → AllEndCalmly b.game.trace
-calm_run root tree calls steps a b begins later calm served link e is =
+pub calm_run : (site : Site) (tree : Tree) (calls : List Call) (steps : List Step) (a b : Playing) → a ≡ unplayed steps → IsLater a b → IsCalm steps → Served site tree calls b.game.trace → AllEndCalmly b.game.trace
+calm_run site tree calls steps a b begins later calm served link e is =
     let same : b.game ≡ played later.calls (unplayed steps).game = later.plays ∙ ap (λ (p : Playing). played later.calls p.game) begins in
     let none : NoneFailed b.game.trace = subst (λ (g : Game). NoneFailed g.trace) (sym same) (calm_never_fails steps later.calls calm) in
     calm_cause e (own link b.game.trace) (unfailed link b.game.trace none) (served.caused link e is)

@@ -4,7 +4,8 @@ use Rattle.std.specs.Prelude.{Option, Some, None}
 use Rattle.lt_world.specs.declared.files.Call.{Call}
 use Rattle.lt_world.specs.Disk.{Disk, Tree, own_calls}
 use Rattle.lt_world.specs.Trace.{Entry}
-use Rattle.server_model.specs.Plan.{world_of}
+use Rattle.server_model.specs.Site.{Site}
+use Rattle.server_model.specs.World.{side_of, world_of}
 use Rattle.server_model.specs.Deeds.{own, ours}
 use Rattle.server_model.specs.Client.{ending_of, stream, IsServedRight}
 use Rattle.server_model.specs.Held.{Held, Serving, kept_at}
@@ -22,12 +23,12 @@ abbrev told : Seen → List Entry → Told
 told seen trace = record { seen = seen; trace = trace }
 
 -- a turn more, by a server of the same root
-pub did : (root same : List ℕ) (start : Told) (before after : Seen) (old now : List Entry) → same ≡ root → IsRun root start (told before old) → IsTurn same before after old now → IsRun root start (told after now)
-did root same start before after old now is run one = more run (subst (λ (r : List ℕ). IsTurn r before after old now) is one)
+pub did : (site same : Site) (start : Told) (before after : Seen) (old now : List Entry) → same ≡ site → IsRun site start (told before old) → IsTurn same before after old now → IsRun site start (told after now)
+did site same start before after old now is run one = more run (subst (λ (s : Site). IsTurn s before after old now) is one)
 
 -- nothing was told, and nothing is seen otherwise
-pub rested : (root : List ℕ) (start : Told) (before after : Seen) (old now : List Entry) → IsRun root start (told before old) → after ≡ before → now ≡ old → IsRun root start (told after now)
-rested root start before after old now run seen trace = subst (λ (s : Seen). IsRun root start (told s now)) (sym seen) (subst (λ (t : List Entry). IsRun root start (told before t)) (sym trace) run)
+pub rested : (site : Site) (start : Told) (before after : Seen) (old now : List Entry) → IsRun site start (told before old) → after ≡ before → now ≡ old → IsRun site start (told after now)
+rested site start before after old now run seen trace = subst (λ (s : Seen). IsRun site start (told s now)) (sym seen) (subst (λ (t : List Entry). IsRun site start (told before t)) (sym trace) run)
 
 freed_calls : (file : Option ℕ) (disk : Disk) → (freed file disk).calls ≡ disk.calls
 freed_calls None disk = refl
@@ -39,28 +40,28 @@ all_freed-calls [] disk = refl
 all_freed-calls (held ∷ table) disk = freed_calls held.file (all_freed table disk) ∙ all_freed-calls table disk
 
 -- a server that serves served each client right, by the tree and the calls on files alone
-pub serves_right : (disk : Disk) (server : Serving) (trace : List Entry) (root : List ℕ) (tree : Tree) (calls : List Call) → Serves disk server trace → server.root ≡ root → disk.tree ≡ tree → disk.calls ≡ calls → ServesRight root tree calls trace
-serves_right disk server trace root tree calls serves root_is tree_is calls_are link =
-    let right = stands_right disk.table (world_of server.root disk link) (kept_at link server.table) (own link trace) (serves.each link) in
-    let rooted = subst (λ (r : List ℕ). IsServedRight (record { client = link; root = r; tree = disk.tree; calls = own_calls link disk.calls }) (own link trace)) root_is right in
-    let wooded = subst (λ (t : Tree). IsServedRight (record { client = link; root = root; tree = t; calls = own_calls link disk.calls }) (own link trace)) tree_is rooted in
-    subst (λ (c : List Call). IsServedRight (record { client = link; root = root; tree = tree; calls = own_calls link c }) (own link trace)) calls_are wooded
+pub serves_right : (disk : Disk) (server : Serving) (trace : List Entry) (site : Site) (tree : Tree) (calls : List Call) → Serves disk server trace → server.site ≡ site → disk.tree ≡ tree → disk.calls ≡ calls → ServesRight site tree calls trace
+serves_right disk server trace site tree calls serves site_is tree_is calls_are link =
+    let right = stands_right disk.table (world_of server.site disk link (own link trace)) (kept_at link server.table) (own link trace) (serves.each link) in
+    let rooted = subst (λ (s : Site). IsServedRight (record { client = link; site = s; side = side_of (own link trace); tree = disk.tree; calls = own_calls link disk.calls }) (own link trace)) site_is right in
+    let wooded = subst (λ (t : Tree). IsServedRight (record { client = link; site = site; side = side_of (own link trace); tree = t; calls = own_calls link disk.calls }) (own link trace)) tree_is rooted in
+    subst (λ (c : List Call). IsServedRight (record { client = link; site = site; side = side_of (own link trace); tree = tree; calls = own_calls link c }) (own link trace)) calls_are wooded
 
 abbrev quiet : Tree → Disk
 quiet tree = record { tree = tree; table = λ file. None; calls = [] }
 
 -- where nothing happened each client was served right, and nothing was due
-unserved_right : (root : List ℕ) (tree : Tree) → ServesRight root tree [] []
-unserved_right root tree link = record {
+unserved_right : (site : Site) (tree : Tree) → ServesRight site tree [] []
+unserved_right site tree link = record {
   right = record {
-    prefix = (stream (record { client = link; root = root; tree = tree; calls = [] }) [], refl);
+    prefix = (stream (record { client = link; site = site; side = side_of []; tree = tree; calls = [] }) [], refl);
     in_turn = λ k what asked. absurd (omega arith);
   };
   clean = λ ended. absurd (cc);
 }
 
-undue : (root : List ℕ) (tree : Tree) → RunsDue root tree [] []
-undue root tree = record {
+undue : (site : Site) (tree : Tree) → RunsDue site tree [] []
+undue site tree = record {
   first = told (record { disk = quiet tree; faults = 0; failed_read = None }) [];
   final = told (record { disk = quiet tree; faults = 0; failed_read = None }) [];
   begins = refl;
@@ -73,25 +74,25 @@ undue root tree = record {
 }
 
 -- the same of a run that was not begun
-pub unserved : (root : List ℕ) (tree : Tree) (calls : List Call) (trace : List Entry) → calls ≡ [] → trace ≡ [] → Served root tree calls trace
-unserved root tree calls trace uncalled untold =
-    let none_called : Served root tree [] [] = record { right = unserved_right root tree; due = undue root tree; caused = λ link e is. absurd (cc (is)) } in
-    subst (λ (c : List Call). Served root tree c trace) (sym uncalled) (subst (λ (t : List Entry). Served root tree [] t) (sym untold) none_called)
+pub unserved : (site : Site) (tree : Tree) (calls : List Call) (trace : List Entry) → calls ≡ [] → trace ≡ [] → Served site tree calls trace
+unserved site tree calls trace uncalled untold =
+    let none_called : Served site tree [] [] = record { right = unserved_right site tree; due = undue site tree; caused = λ link e is. absurd (cc (is)) } in
+    subst (λ (c : List Call). Served site tree c trace) (sym uncalled) (subst (λ (t : List Entry). Served site tree [] t) (sym untold) none_called)
 
 -- the same root and tree under other names
-pub served_as : (root other : List ℕ) (tree wood : Tree) (calls : List Call) (trace : List Entry) → Served root tree calls trace → root ≡ other → tree ≡ wood → Served other wood calls trace
-served_as root other tree wood calls trace served root_is tree_is =
-    subst (λ (t : Tree). Served other t calls trace) tree_is (subst (λ (r : List ℕ). Served r tree calls trace) root_is served)
+pub served_as : (site other : Site) (tree wood : Tree) (calls : List Call) (trace : List Entry) → Served site tree calls trace → site ≡ other → tree ≡ wood → Served other wood calls trace
+served_as site other tree wood calls trace served site_is tree_is =
+    subst (λ (t : Tree). Served other t calls trace) tree_is (subst (λ (s : Site). Served s tree calls trace) site_is served)
 
 unrisen : (before now : ℕ) → before ≡ 0 → now ≡ 0 → Rose before now → ⊥
 unrisen before now first last rose = grind (arith, first, last, rose)
 
 -- a run after which the server serves, over a tree that stays
-pub serves_all : (disk start : Disk) (server : Serving) (root : List ℕ) (tree : Tree) (calls : List Call) (faults now_faults : ℕ) (failed now_failed : Option Owner) (old trace : List Entry)
-    → old ≡ [] → faults ≡ 0 → now_faults ≡ faults → start.tree ≡ tree → start.calls ≡ [] → Serves disk server trace → server.root ≡ root → disk.tree ≡ tree → disk.calls ≡ calls
-    → IsRun root (told_as start faults failed old) (told_as disk now_faults now_failed trace) → Served root tree calls trace
-serves_all disk start server root tree calls faults now_faults failed now_failed old trace untold unfailed calm start_tree uncalled serves root_is tree_is calls_are run = record {
-  right = serves_right disk server trace root tree calls serves root_is tree_is calls_are;
+pub serves_all : (disk start : Disk) (server : Serving) (site : Site) (tree : Tree) (calls : List Call) (faults now_faults : ℕ) (failed now_failed : Option Owner) (old trace : List Entry)
+    → old ≡ [] → faults ≡ 0 → now_faults ≡ faults → start.tree ≡ tree → start.calls ≡ [] → Serves disk server trace → server.site ≡ site → disk.tree ≡ tree → disk.calls ≡ calls
+    → IsRun site (told_as start faults failed old) (told_as disk now_faults now_failed trace) → Served site tree calls trace
+serves_all disk start server site tree calls faults now_faults failed now_failed old trace untold unfailed calm start_tree uncalled serves site_is tree_is calls_are run = record {
+  right = serves_right disk server trace site tree calls serves site_is tree_is calls_are;
   due = record {
     first = told_as start faults failed old;
     final = told_as disk now_faults now_failed trace;
@@ -103,7 +104,7 @@ serves_all disk start server root tree calls faults now_faults failed now_failed
     calls_are = calls_are;
     calm = calm;
   };
-  caused = λ link e is. elim (run_ends root (told_as start faults failed old) (told_as disk now_faults now_failed trace) run link e is) [
+  caused = λ link e is. elim (run_ends site (told_as start faults failed old) (told_as disk now_faults now_failed trace) run link e is) [
     | inl was ↦ absurd (cc (ap (λ (t : List Entry). ending_of (ours (own link t))) untold, was))
     | inr cause ↦ cause_stays e (own link trace) (own link trace) (Rose faults now_faults) ⊥ (λ failed. failed) (unrisen faults now_faults unfailed (calm ∙ unfailed)) cause
   ];

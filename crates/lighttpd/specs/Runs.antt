@@ -7,7 +7,9 @@ use Rattle.lt_world.specs.declared.net.Owner.{Owner}
 use Rattle.lt_world.specs.declared.files.Call.{Call}
 use Rattle.lt_world.specs.Disk.{Disk, Tree, own_calls}
 use Rattle.lt_world.specs.Trace.{Entry}
+use Rattle.server_model.specs.Site.{Site}
 use Rattle.server_model.specs.Client.{ending_of, IsServedRight}
+use Rattle.server_model.specs.World.{side_of}
 use Rattle.server_model.specs.Deeds.{own, ours}
 use Rattle.server_model.specs.Runs.{Told, IsRun}
 use Rattle.server_model.specs.Causes.{IsCause}
@@ -23,26 +25,26 @@ FinishFits finish.NoMemory last = last ≡ kind.NoMemory
 abbrev pub told_as : Disk → ℕ → Option Owner → List Entry → Told
 told_as disk faults failed_read trace = record { seen = record { disk = disk; faults = faults; failed_read = failed_read }; trace = trace }
 
--- each client took a prefix of the stream that the root, the tree, its own bytes and the calls on files for it alone
+-- each client took a prefix of the stream that the site, the tree, its own deeds and the calls on files for it alone
 -- determine, and all of it where it was closed clean
-abbrev pub ServesRight : List ℕ → Tree → List Call → List Entry → Type 0
-ServesRight root tree calls trace = (link : ℕ) → IsServedRight (record { client = link; root = root; tree = tree; calls = own_calls link calls }) (own link trace)
+abbrev pub ServesRight : Site → Tree → List Call → List Entry → Type 0
+ServesRight site tree calls trace = (link : ℕ) → IsServedRight (record { client = link; site = site; side = side_of (own link trace); tree = tree; calls = own_calls link calls }) (own link trace)
 
 -- from no event on, each event is followed by what is due for it and by nothing else, up to this trace and these calls
-pub record RunsDue (root : List ℕ) (tree : Tree) (calls : List Call) (trace : List Entry) : Type 0 where
+pub record RunsDue (site : Site) (tree : Tree) (calls : List Call) (trace : List Entry) : Type 0 where
   pub first : Told
   pub final : Told
   pub begins : first.trace ≡ []
   pub tree_is : first.seen.disk.tree ≡ tree
   pub uncalled : first.seen.disk.calls ≡ []
-  pub run : IsRun root first final
+  pub run : IsRun site first final
   pub trace_is : final.trace ≡ trace
   pub calls_are : final.seen.disk.calls ≡ calls
   -- no call on the files failed
   pub calm : final.seen.faults ≡ first.seen.faults
 
 -- what a run from a fresh server over a fresh net keeps for its clients; each is closed for a cause, and none for a file's fault
-pub record Served (root : List ℕ) (tree : Tree) (calls : List Call) (trace : List Entry) : Type 0 where
-  pub right : ServesRight root tree calls trace
-  pub due : RunsDue root tree calls trace
+pub record Served (site : Site) (tree : Tree) (calls : List Call) (trace : List Entry) : Type 0 where
+  pub right : ServesRight site tree calls trace
+  pub due : RunsDue site tree calls trace
   pub caused : (link : ℕ) (e : Ending) → ending_of (ours (own link trace)) ≡ Some e → IsCause e (ours (own link trace)) ⊥

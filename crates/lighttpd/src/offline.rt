@@ -13,6 +13,7 @@ ghost use Rattle.lt_script.specs.declared.script.Script.{Script};
 ghost use Rattle.lt_script.specs.declared.script.Step.{Step};
 ghost use Rattle.conf_parse.specs.declared.tree.Tree.{Tree};
 ghost use Rattle.conf_parse.specs.Print.{printed};
+ghost use Rattle.server_model.specs.Site.{site_at};
 ghost use Rattle.server_model.specs.Files.{IsTable, Backs};
 ghost use Rattle.server_model.specs.Serves.{Serves};
 ghost use Rattle.server_core.specs.Within.{serving_at};
@@ -64,7 +65,7 @@ pub fn offline<X: Texts, S: Sink>(
     // it was closed clean; and what was due for each event followed it in the same turn.
     ensures serves { X.tells → (conf script root : List ℕ) (said : Script) → SpellsLine (map string_bytes words.now) (replay_line conf script)
         → HasRoot (X.texts texts.old conf) root → HasScript (X.texts texts.old script) said
-        → Served root (planted said.files (tree_of no_files)) files.new.calls net.new.game.trace }
+        → Served (site_at root) (planted said.files (tree_of no_files)) files.new.calls net.new.game.trace }
 
     // Where no line makes a read or a write fail, each client that was closed was closed clean, as one too many or for
     // want of memory.
@@ -109,7 +110,7 @@ fn replay<X: Texts, S: Sink>(
     ensures memory { MemorySays result net.new.last }
     ensures complete { X.tells → (root : List ℕ) (said : Script) → HasRoot (X.texts texts.old conf.now) root → HasScript (X.texts texts.old script.now) said → IsComplete result }
     ensures serves { X.tells → (root : List ℕ) (said : Script) → HasRoot (X.texts texts.old conf.now) root → HasScript (X.texts texts.old script.now) said
-        → Served root (planted said.files (tree_of no_files)) files.new.calls net.new.game.trace }
+        → Served (site_at root) (planted said.files (tree_of no_files)) files.new.calls net.new.game.trace }
     ensures calm { X.tells → (said : Script) → HasScript (X.texts texts.old script.now) said → IsCalm said.steps → AllEndCalmly net.new.game.trace }
     ensures plays { X.tells → (said : Script) → HasScript (X.texts texts.old script.now) said → result ≡ Status.Done → Plays said.steps net.new.game.trace [] }
     ensures report { S.tells → SinkSays result (report_of net.new.game.trace) (S.bytes sink.old) (S.bytes sink.new) }
@@ -138,7 +139,7 @@ fn play<S: Sink>(server: Server, net: &mut ScriptNet, files: &mut MemFiles, sink
     requires table { (links : ℕ) → IsTable links server.table }
     requires backs { (disk : Disk) → Backs disk.table server.table }
     requires serves { (disk : Disk) → disk.calls ≡ [] → ((file : ℕ) → disk.table file ≡ None) → Serves disk (serving_at server) [] }
-    ensures serves { Served server.root (tree_of files.old) files.new.calls net.new.game.trace }
+    ensures serves { Served server.site (tree_of files.old) files.new.calls net.new.game.trace }
     ensures ends { PlaySays result net.new.last }
     ensures calm { (steps : List Step) → net.old ≡ unplayed steps → IsCalm steps → AllEndCalmly net.new.game.trace }
     ensures plays { (steps : List Step) → net.old ≡ unplayed steps → result ≡ Status.Done → Plays steps net.new.game.trace [] }
@@ -161,7 +162,7 @@ fn serve(server: Server, net: &mut ScriptNet, files: &mut MemFiles) -> Finish
     requires table { (links : ℕ) → IsTable links server.table }
     requires backs { (disk : Disk) → Backs disk.table server.table }
     requires serves { (disk : Disk) → disk.calls ≡ [] → ((file : ℕ) → disk.table file ≡ None) → Serves disk (serving_at server) [] }
-    ensures serves { Served server.root (tree_of files.old) files.new.calls net.new.game.trace }
+    ensures serves { Served server.site (tree_of files.old) files.new.calls net.new.game.trace }
     ensures last { FinishFits result net.new.last }
     ensures over { result ≡ Finish.Over → events_left net.new.game.left ≡ 0 }
     ensures later { IsLater net.old net.new }

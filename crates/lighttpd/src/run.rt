@@ -22,10 +22,10 @@ pub fn run<N: Net, F: Files>(server: &mut Server, net: &mut N, files: &mut F) ->
     requires table { IsTable (N.links net.old) server.old.table }
     requires backs { F.tells → Backs (F.disk files.old).table server.old.table }
     ensures serves { N.tells → F.tells → Serves (F.disk files.old) (serving_at server.old) (N.trace net.old) → Serves (F.disk files.new) (serving_at server.new) (N.trace net.new) }
-    ensures run { N.tells → F.tells → Serves (F.disk files.old) (serving_at server.old) (N.trace net.old) → IsRun server.old.root
+    ensures run { N.tells → F.tells → Serves (F.disk files.old) (serving_at server.old) (N.trace net.old) → IsRun server.old.site
         (told_as (F.disk files.old) (F.faults files.old) (F.failed_read files.old) (N.trace net.old))
         (told_as (F.disk files.new) (F.faults files.new) (F.failed_read files.new) (N.trace net.new)) }
-    ensures root { server.new.root ≡ server.old.root }
+    ensures site { server.new.site ≡ server.old.site }
     ensures last { FinishFits result (N.last net.new) }
     ensures over { result ≡ Finish.Over → N.left net.new ≡ 0 }
     ensures later { N.later net.old net.new }

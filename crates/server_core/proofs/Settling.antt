@@ -3,16 +3,19 @@ use Rattle.std.proofs.Common.{◌≡◌, ◌≢◌, ℕ, zero, suc, ◌+◌, ◌
 use Rattle.lt_world.specs.declared.net.Ending.{Ending}
 use Rattle.lt_world.specs.declared.net.Ending.TheVariants as ending
 use Rattle.lt_world.specs.Disk.{Disk, Table, released}
-use Rattle.lt_world.specs.Trace.{Act}
 use Rattle.chunkqueue.specs.Items.{Item, Byte, FileByte, Contents, empty, items_of, count_of, bytes_of, range}
 use Rattle.buffer_pool.specs.State.{PoolState}
 use Rattle.buffer_pool.specs.Kept.{Kept}
 use Rattle.buffer_pool.proofs.Keeping.{kept_both, kept_beside}
 use Rattle.chunkqueue.proofs.Ranges.{length-range}
-use Rattle.server_model.specs.Request.{Head, Complete, body_limit}
-use Rattle.server_model.specs.Plan.{Outcome, Error, Content, is_head, world_of}
-use Rattle.server_model.specs.Reply.{is_last_request, error_bytes, file_head, body_for, final_bytes}
-use Rattle.server_model.specs.Held.{Stage, Asking, Held}
+use Rattle.server_model.specs.Deeds.{Deed, ours}
+use Rattle.server_model.specs.Settings.{Settings, settings_at, is_last_request}
+use Rattle.server_model.specs.Site.{Site}
+use Rattle.server_model.specs.Request.{Head, Complete}
+use Rattle.server_model.specs.World.{Arrival, world_of}
+use Rattle.server_model.specs.Plan.{Outcome, error_outcome, file_outcome, error_fields, file_fields, is_head}
+use Rattle.server_model.specs.Reply.{error_bytes, content_head, body_for, final_bytes}
+use Rattle.server_model.specs.Held.{Stage, Asking, Held, Heading, arrival_of}
 use Rattle.server_model.specs.Steps.{number_of, advanced, looks, accepted, answered, holding, has_no_items, is_done}
 use Rattle.server_model.specs.Files.{IsOpened, AllFit, Fits, FileStep}
 use Rattle.server_model.specs.Planning.{CallsFor, PlansTo, PlansError, PlansFile}
@@ -53,14 +56,21 @@ some_append : (xs ys : List Item) → has_no_items xs ≡ false → has_no_items
 some_append [] ys some = absurd (cc (some))
 some_append (x ∷ xs) ys some = refl
 
-error_some : (minor status : ℕ) (last head_only : Bool) → has_no_items (map Byte (error_bytes minor status last head_only)) ≡ false
-error_some minor status last head_only = refl
+-- an error, and the head before a file
+abbrev error_at : List ℕ → ℕ → ℕ → Bool → Bool → List ℕ
+error_at tag minor status last head_only = error_bytes tag minor status (error_fields status) last head_only
 
-head_some : (minor size : ℕ) (last : Bool) → has_no_items (map Byte (file_head minor size last)) ≡ false
-head_some minor size last = refl
+abbrev file_at : List ℕ → ℕ → ℕ → Bool → List ℕ
+file_at tag minor size last = content_head tag minor 200 file_fields size last
+
+error_some : (tag : List ℕ) (minor status : ℕ) (last head_only : Bool) → has_no_items (map Byte (error_at tag minor status last head_only)) ≡ false
+error_some tag minor status last head_only = refl
+
+head_some : (tag : List ℕ) (minor size : ℕ) (last : Bool) → has_no_items (map Byte (file_at tag minor size last)) ≡ false
+head_some tag minor size last = refl
 
 -- items and a reply that is the last or not
-module _ (root : List ℕ) (held : Held) (tells : Type 0) (before after : Disk) (none : held.file ≡ None) (here : tells → Fits before.table held) where
+module _ (site : Site) (held : Held) (tells : Type 0) (before after : Disk) (none : held.file ≡ None) (here : tells → Fits before.table held) where
   answered_fits : (items : List Item) (file : Option ℕ) (last : Bool) → (tells → IsOpened after.table file) → (tells → AllFit after.table file items) → tells → Fits after.table (answered held items file last)
   answered_fits items file last opened fit f = record {
     is_open = opened f;
@@ -69,87 +79,94 @@ module _ (root : List ℕ) (held : Held) (tells : Type 0) (before after : Disk) 
 
   -- it is answered
   gives_on : (items : List Item) (file : Option ℕ) (last : Bool) (new : Held) → new ≡ answered held items file last → has_no_items items ≡ false → (tells → FileStep held.link None file before after) → (tells → IsOpened after.table file) → (tells → AllFit after.table file items)
-      → (tells → (acts : List Act) → Matches before.table (world_of root before held.link) held acts → Matches after.table (world_of root after held.link) (answered held items file last) acts) → SettlesOn root held new tells before after
+      → (tells → (past : List Deed) → Matches before.table (world_of site before held.link past) held (ours past) → Matches after.table (world_of site after held.link past) (answered held items file last) (ours past)) → SettlesOn site held new tells before after
   gives_on items file last new is some files opened fit matches =
       let owes : has_no_items (held.owed ++ items) ≡ false = some_behind held.owed items some in
-      subst (λ (h : Held). SettlesOn root held h tells before after) (sym is) (record {
+      subst (λ (h : Held). SettlesOn site held h tells before after) (sym is) (record {
         link = refl;
         does = λ f. subst (λ (o : Option ℕ). FileStep held.link o file before after) (sym none) (files f);
         fits = answered_fits items file last opened fit;
-        keeps = λ f acts m. matches_stands after.table (world_of root after held.link) (answered held items file last) acts (matches f acts m) owes (ap (λ (b : Bool). b && last) owes);
+        keeps = λ f past m. matches_stands after.table (world_of site after held.link past) (answered held items file last) (ours past) (matches f past m) owes (ap (λ (b : Bool). b && last) owes);
       })
 
-module _ (root : List ℕ) (held : Held) (tells : Type 0) (before after : Disk) (head : Head) (content : List ℕ) (asking : held.stage ≡ Asking (number_of held.stage) (Complete head content)) (none : held.file ≡ None) (here : tells → Fits before.table held) where
+module _ (site : Site) (held : Held) (tells : Type 0) (before after : Disk) (head : Head) (content : List ℕ) (asking : held.stage ≡ Asking (number_of held.stage) (Complete head content)) (none : held.file ≡ None) (here : tells → Fits before.table held) where
+  abbrev settings : Settings
+  settings = settings_at site (Some (arrival_of held)) (Some head)
+
   abbrev last : Bool
-  last = is_last_request (number_of held.stage) head
+  last = is_last_request settings.request_limit (number_of held.stage) head
 
   -- it is answered as is planned
   answers_on : (items : List Item) (file : Option ℕ) (new : Held) → new ≡ answered held items file last → has_no_items items ≡ false
-      → (tells → CallsFor root held.link (number_of held.stage) file before after)
-      → (tells → (o : Outcome) × PlansTo o root held.link (number_of held.stage) head before after × (bytes_of after.table items ≡ final_bytes head last o))
-      → (tells → IsOpened after.table file) → (tells → AllFit after.table file items) → SettlesOn root held new tells before after
-  answers_on items file new is some calls plans opened fit = gives_on root held tells before after none here items file last new is some (λ f. (calls f).files) opened fit
-      (λ f acts m. let p = plans f in answer_by root held before after acts head content file asking p.0 items (calls f) p.1 p.2 (here f) m)
+      → (tells → CallsFor site held.link (number_of held.stage) file before after)
+      → (tells → (o : Outcome) × (is_last_request o.settings.request_limit (number_of held.stage) head ≡ last) × PlansTo o site (Some (arrival_of held)) held.link (number_of held.stage) head before after × (bytes_of after.table items ≡ final_bytes head last o))
+      → (tells → IsOpened after.table file) → (tells → AllFit after.table file items) → SettlesOn site held new tells before after
+  answers_on items file new is some calls plans opened fit = gives_on site held tells before after none here items file last new is some (λ f. (calls f).files) opened fit
+      (λ f past m.
+      let p = plans f in
+      subst (λ (l : Bool). Matches after.table (world_of site after held.link past) (answered held items file l) (ours past)) p.1
+      (answer_by site held before after past head content file asking p.0 items (calls f) p.2 (p.3 ∙ ap (λ (l : Bool). final_bytes head l p.0) (sym p.1)) (here f) m))
 
   gone : (file : Option ℕ) (new : Held) (e : Ending) → (e ≡ ending.NoMemory) × (new ≡ holding held file)
-      → (tells → CallsFor root held.link (number_of held.stage) file before after) → SettlesTo true root held new (Some e) tells before after
-  gone file new e is calls = subst (λ (x : Ending). SettlesTo true root held new (Some x) tells before after) (sym is.0)
-      (plan_yields root held new tells before after head content file asking (ap (λ (h : Held). h.link) is.1) none (ap (λ (h : Held). h.file) is.1) calls)
+      → (tells → CallsFor site held.link (number_of held.stage) file before after) → SettlesTo true site held new (Some e) tells before after
+  gone file new e is calls = subst (λ (x : Ending). SettlesTo true site held new (Some x) tells before after) (sym is.0)
+      (plan_yields site held new tells before after head content file asking (ap (λ (h : Held). h.link) is.1) none (ap (λ (h : Held). h.file) is.1) calls)
 
-  pub settles_error : (status : ℕ) (new : Held) (result : Option Ending) → GivenBy result held new (map Byte (error_bytes head.minor status last (is_head head.method))) None last
-      → (tells → PlansError status root held.link (number_of held.stage) head before after) → SettlesTo true root held new result tells before after
-  settles_error status new None is plans = answers_on (map Byte (error_bytes head.minor status last (is_head head.method))) None new is (error_some head.minor status last (is_head head.method)) (λ f. (plans f).calls)
-      (λ f. (Error status, (plans f).plans, memory_bytes after.table (error_bytes head.minor status last (is_head head.method))))
-      (λ f. tt) (λ f. all_memory after.table None (error_bytes head.minor status last (is_head head.method)))
+  pub settles_error : (status : ℕ) (new : Held) (result : Option Ending) → GivenBy result held new (map Byte (error_at settings.tag head.minor status last (is_head head.method))) None last
+      → (tells → PlansError status site (Some (arrival_of held)) held.link (number_of held.stage) head before after) → SettlesTo true site held new result tells before after
+  settles_error status new None is plans = answers_on (map Byte (error_at settings.tag head.minor status last (is_head head.method))) None new is (error_some settings.tag head.minor status last (is_head head.method)) (λ f. (plans f).calls)
+      (λ f. (error_outcome settings status, refl, (plans f).plans, memory_bytes after.table (error_at settings.tag head.minor status last (is_head head.method))))
+      (λ f. tt) (λ f. all_memory after.table None (error_at settings.tag head.minor status last (is_head head.method)))
   settles_error status new (Some e) is plans = gone None new e is (λ f. (plans f).calls)
 
-  file_is : (file size : ℕ) (p : PlansFile file size root held.link (number_of held.stage) head before after) → is_head head.method ≡ false
-      → bytes_of after.table (map Byte (file_head head.minor size last) ++ range file 0 size) ≡ file_head head.minor (length p.bytes) last ++ body_for head.method p.bytes
+  file_is : (file size : ℕ) (p : PlansFile file size site (Some (arrival_of held)) held.link (number_of held.stage) head before after) → is_head head.method ≡ false
+      → bytes_of after.table (map Byte (file_at settings.tag head.minor size last) ++ range file 0 size) ≡ file_at settings.tag head.minor (length p.bytes) last ++ body_for head.method p.bytes
   file_is file size p get =
-      subst (λ (s : ℕ). bytes_of after.table (map Byte (file_head head.minor s last) ++ range file 0 s) ≡ file_head head.minor (length p.bytes) last ++ p.bytes) p.has_size
-      (file_reply after.table file (file_head head.minor (length p.bytes) last) p.bytes p.opened)
-      ∙ ap (λ (t : Bool). file_head head.minor (length p.bytes) last ++ (if t then [] else p.bytes)) (sym get)
+      subst (λ (s : ℕ). bytes_of after.table (map Byte (file_at settings.tag head.minor s last) ++ range file 0 s) ≡ file_at settings.tag head.minor (length p.bytes) last ++ p.bytes) p.has_size
+      (file_reply after.table file (file_at settings.tag head.minor (length p.bytes) last) p.bytes p.opened)
+      ∙ ap (λ (t : Bool). file_at settings.tag head.minor (length p.bytes) last ++ (if t then [] else p.bytes)) (sym get)
 
-  pub settles_file : (file size : ℕ) (new : Held) (result : Option Ending) → is_head head.method ≡ false → GivenBy result held new (map Byte (file_head head.minor size last) ++ range file 0 size) (Some file) last
-      → (tells → PlansFile file size root held.link (number_of held.stage) head before after) → SettlesTo true root held new result tells before after
-  settles_file file size new None get is plans = answers_on (map Byte (file_head head.minor size last) ++ range file 0 size) (Some file) new is (some_append (map Byte (file_head head.minor size last)) (range file 0 size) (head_some head.minor size last)) (λ f. (plans f).calls)
-      (λ f. (Content (plans f).bytes, (plans f).plans, file_is file size (plans f) get))
+  pub settles_file : (file size : ℕ) (new : Held) (result : Option Ending) → is_head head.method ≡ false → GivenBy result held new (map Byte (file_at settings.tag head.minor size last) ++ range file 0 size) (Some file) last
+      → (tells → PlansFile file size site (Some (arrival_of held)) held.link (number_of held.stage) head before after) → SettlesTo true site held new result tells before after
+  settles_file file size new None get is plans = answers_on (map Byte (file_at settings.tag head.minor size last) ++ range file 0 size) (Some file) new is (some_append (map Byte (file_at settings.tag head.minor size last)) (range file 0 size) (head_some settings.tag head.minor size last)) (λ f. (plans f).calls)
+      (λ f. (file_outcome settings (plans f).bytes, refl, (plans f).plans, file_is file size (plans f) get))
       (λ f. ((plans f).bytes, (plans f).opened))
-      (λ f. let p = plans f in memory_fits after.table (Some file) (file_head head.minor size last) (range file 0 size) (range_fits after.table file p.bytes p.opened 0 size (omega (arith, p.has_size))))
+      (λ f. let p = plans f in memory_fits after.table (Some file) (file_at settings.tag head.minor size last) (range file 0 size) (range_fits after.table file p.bytes p.opened 0 size (omega (arith, p.has_size))))
   settles_file file size new (Some e) get is plans = gone (Some file) new e is (λ f. (plans f).calls)
 
   -- the reply to HEAD, or to a file of no bytes
-  bare_reply : (only none_is : Bool) (bytes : List ℕ) → (only || none_is) ≡ true → (none_is ≡ true → length bytes ≡ 0) → is_head head.method ≡ only → file_head head.minor (length bytes) last ≡ file_head head.minor (length bytes) last ++ body_for head.method bytes
-  bare_reply true none_is bytes bare nothing is = sym (append-nil (file_head head.minor (length bytes) last)) ∙ ap (λ (t : Bool). file_head head.minor (length bytes) last ++ (if t then [] else bytes)) (sym is)
-  bare_reply false true bytes bare nothing is = still bytes (nothing refl) ∙ ap (λ (t : Bool). file_head head.minor (length bytes) last ++ (if t then [] else bytes)) (sym is)
+  bare_reply : (only none_is : Bool) (bytes : List ℕ) → (only || none_is) ≡ true → (none_is ≡ true → length bytes ≡ 0) → is_head head.method ≡ only → file_at settings.tag head.minor (length bytes) last ≡ file_at settings.tag head.minor (length bytes) last ++ body_for head.method bytes
+  bare_reply true none_is bytes bare nothing is = sym (append-nil (file_at settings.tag head.minor (length bytes) last)) ∙ ap (λ (t : Bool). file_at settings.tag head.minor (length bytes) last ++ (if t then [] else bytes)) (sym is)
+  bare_reply false true bytes bare nothing is = still bytes (nothing refl) ∙ ap (λ (t : Bool). file_at settings.tag head.minor (length bytes) last ++ (if t then [] else bytes)) (sym is)
     where
-      still : (b : List ℕ) → length b ≡ 0 → file_head head.minor (length b) last ≡ file_head head.minor (length b) last ++ b
-      still [] e = sym (append-nil (file_head head.minor 0 last))
+      still : (b : List ℕ) → length b ≡ 0 → file_at settings.tag head.minor (length b) last ≡ file_at settings.tag head.minor (length b) last ++ b
+      still [] e = sym (append-nil (file_at settings.tag head.minor 0 last))
       still (x ∷ b) e = absurd (omega (arith, e))
   bare_reply false false bytes bare nothing is = absurd (cc (bare))
 
   -- a file of which no byte goes out is given back at once
-  pub settles_bare : (file size : ℕ) (between : Disk) (new : Held) (result : Option Ending) (none_is : Bool) → (is_head head.method || none_is) ≡ true → (none_is ≡ true → size ≡ 0) → GivenBy result held new (map Byte (file_head head.minor size last)) None last
-      → (tells → PlansFile file size root held.link (number_of held.stage) head before between) → (tells → after ≡ released file between) → SettlesTo true root held new result tells before after
-  settles_bare file size between new None none_is bare nothing is plans same = answers_on (map Byte (file_head head.minor size last)) None new is (head_some head.minor size last)
-      (λ f. release_calls root held.link (number_of held.stage) head file before between after (same f) (plans f).calls)
+  pub settles_bare : (file size : ℕ) (between : Disk) (new : Held) (result : Option Ending) (none_is : Bool) → (is_head head.method || none_is) ≡ true → (none_is ≡ true → size ≡ 0) → GivenBy result held new (map Byte (file_at settings.tag head.minor size last)) None last
+      → (tells → PlansFile file size site (Some (arrival_of held)) held.link (number_of held.stage) head before between) → (tells → after ≡ released file between) → SettlesTo true site held new result tells before after
+  settles_bare file size between new None none_is bare nothing is plans same = answers_on (map Byte (file_at settings.tag head.minor size last)) None new is (head_some settings.tag head.minor size last)
+      (λ f. release_calls site held.link (number_of held.stage) head file before between after (same f) (plans f).calls)
       (λ f. let p = plans f in (
-        Content p.bytes,
-        release_plans root held.link (number_of held.stage) head file before between after (same f) (Content p.bytes) p.plans,
-        memory_bytes after.table (file_head head.minor size last) ∙ ap (λ (n : ℕ). file_head head.minor n last) (sym p.has_size)
+        file_outcome settings p.bytes,
+        refl,
+        release_plans site held.link (number_of held.stage) head file before between after (same f) (file_outcome settings p.bytes) (Some (arrival_of held)) p.plans,
+        memory_bytes after.table (file_at settings.tag head.minor size last) ∙ ap (λ (n : ℕ). file_at settings.tag head.minor n last) (sym p.has_size)
             ∙ bare_reply (is_head head.method) none_is p.bytes bare (λ e. p.has_size ∙ nothing e) refl,
       ))
-      (λ f. tt) (λ f. all_memory after.table None (file_head head.minor size last))
-  settles_bare file size between new (Some e) none_is bare nothing is plans same = gone None new e is (λ f. release_calls root held.link (number_of held.stage) head file before between after (same f) (plans f).calls)
+      (λ f. tt) (λ f. all_memory after.table None (file_at settings.tag head.minor size last))
+  settles_bare file size between new (Some e) none_is bare nothing is plans same = gone None new e is (λ f. release_calls site held.link (number_of held.stage) head file before between after (same f) (plans f).calls)
 
   -- memory is wanted for its reply, and its file was given back
-  pub settles_released : (file size : ℕ) (between : Disk) → (tells → PlansFile file size root held.link (number_of held.stage) head before between) → (tells → after ≡ released file between)
-      → SettlesTo true root held held (Some ending.NoMemory) tells before after
-  settles_released file size between plans same = plan_yields root held held tells before after head content None asking refl none none (λ f. release_calls root held.link (number_of held.stage) head file before between after (same f) (plans f).calls)
+  pub settles_released : (file size : ℕ) (between : Disk) → (tells → PlansFile file size site (Some (arrival_of held)) held.link (number_of held.stage) head before between) → (tells → after ≡ released file between)
+      → SettlesTo true site held held (Some ending.NoMemory) tells before after
+  settles_released file size between plans same = plan_yields site held held tells before after head content None asking refl none none (λ f. release_calls site held.link (number_of held.stage) head file before between after (same f) (plans f).calls)
 
   -- memory is wanted for the plan itself
-  pub settles_unplanned : (tells → Plans planned.NoMemory root held.link (number_of held.stage) head before after) → SettlesTo true root held held (Some ending.NoMemory) tells before after
-  settles_unplanned calls = plan_yields root held held tells before after head content None asking refl none none calls
+  pub settles_unplanned : (tells → Plans planned.NoMemory site (Some (arrival_of held)) held.link (number_of held.stage) head before after) → SettlesTo true site held held (Some ending.NoMemory) tells before after
+  settles_unplanned calls = plan_yields site held held tells before after head content None asking refl none none calls
 
 -- no byte of a file goes out
 pub bare_only : (only : Bool) → only ≡ true → (only || false) ≡ true
@@ -160,50 +177,52 @@ bare_empty true = refl
 bare_empty false = refl
 
 -- a request that is refused
-module _ (root : List ℕ) (held : Held) (tells : Type 0) (disk : Disk) (none : held.file ≡ None) (here : tells → Fits disk.table held) (status : ℕ) where
-  no_memory : (form : Form) (new : Held) (e : Ending) → (e ≡ ending.NoMemory) × (new ≡ holding held None) → SettlesTo true root held new (Some e) tells disk disk
-  no_memory form new e is = subst (λ (x : Ending). SettlesTo true root held new (Some x) tells disk disk) (sym is.0) (settle_yields root held tells disk new (ap (λ (h : Held). h.link) is.1) (ap (λ (h : Held). h.file) is.1 ∙ sym none))
+module _ (site : Site) (held : Held) (tells : Type 0) (disk : Disk) (none : held.file ≡ None) (here : tells → Fits disk.table held) (status : ℕ) where
+  no_memory : (form : Form) (new : Held) (e : Ending) → (e ≡ ending.NoMemory) × (new ≡ holding held None) → SettlesTo true site held new (Some e) tells disk disk
+  no_memory form new e is = subst (λ (x : Ending). SettlesTo true site held new (Some x) tells disk disk) (sym is.0) (settle_yields site held tells disk new (ap (λ (h : Held). h.link) is.1) (ap (λ (h : Held). h.file) is.1 ∙ sym none))
 
-  refused_by : (form : Form) (new : Held) (result : Option Ending) → IsRefused held.stage status → form ≡ refused_form (head_at held.stage) → GivenBy result held new (map Byte (error_bytes form.minor status form.last form.head_only)) None form.last → SettlesTo true root held new result tells disk disk
-  refused_by form new (Some e) refused is given = no_memory form new e given
-  refused_by form new None (IsRefused.Unread at) is given =
+  refused_by : (tag : List ℕ) (form : Form) (new : Held) (result : Option Ending) → IsRefused held.stage status → tag ≡ (settings_at site (Some (arrival_of held)) (head_at held.stage)).tag → form ≡ refused_form (head_at held.stage) → GivenBy result held new (map Byte (error_at tag form.minor status form.last form.head_only)) None form.last → SettlesTo true site held new result tells disk disk
+  refused_by tag form new (Some e) refused called is given = no_memory form new e given
+  refused_by tag form new None (IsRefused.Unread at) called is given =
+      let tag_is : tag ≡ (settings_at site (Some (arrival_of held)) None).tag = called ∙ ap (λ (s : Stage). (settings_at site (Some (arrival_of held)) (head_at s)).tag) at in
       let form_is : form ≡ refused_form None = is ∙ ap (λ (s : Stage). refused_form (head_at s)) at in
-      gives_on root held tells disk disk none here (map Byte (error_bytes 1 status true false)) None true new
-      (given ∙ ap (λ (g : Form). answered held (map Byte (error_bytes g.minor status g.last g.head_only)) None g.last) form_is) (error_some 1 status true false)
-      (λ f. same_files held.link disk None) (λ f. tt) (λ f. all_memory disk.table None (error_bytes 1 status true false))
-      (λ f acts m. refuse_by root held disk acts status (map Byte (error_bytes 1 status true false)) at (memory_bytes disk.table (error_bytes 1 status true false)) m)
-  refused_by form new None (IsRefused.Read head at) is given =
+      gives_on site held tells disk disk none here (map Byte (error_at (settings_at site (Some (arrival_of held)) None).tag 1 status true false)) None true new
+      (given ∙ (λ i. answered held (map Byte (error_at (tag_is i) (form_is i).minor status (form_is i).last (form_is i).head_only)) None (form_is i).last)) (error_some (settings_at site (Some (arrival_of held)) None).tag 1 status true false)
+      (λ f. same_files held.link disk None) (λ f. tt) (λ f. all_memory disk.table None (error_at (settings_at site (Some (arrival_of held)) None).tag 1 status true false))
+      (λ f past m. refuse_by site held disk past status (map Byte (error_at (settings_at site (Some (arrival_of held)) None).tag 1 status true false)) at (memory_bytes disk.table (error_at (settings_at site (Some (arrival_of held)) None).tag 1 status true false)) m)
+  refused_by tag form new None (IsRefused.Read head at) called is given =
+      let tag_is : tag ≡ (settings_at site (Some (arrival_of held)) (Some head)).tag = called ∙ ap (λ (s : Stage). (settings_at site (Some (arrival_of held)) (head_at s)).tag) at in
       let form_is : form ≡ refused_form (Some head) = is ∙ ap (λ (s : Stage). refused_form (head_at s)) at in
-      gives_on root held tells disk disk none here (map Byte (error_bytes head.minor status true (is_head head.method))) None true new
-      (given ∙ ap (λ (g : Form). answered held (map Byte (error_bytes g.minor status g.last g.head_only)) None g.last) form_is) (error_some head.minor status true (is_head head.method))
-      (λ f. same_files held.link disk None) (λ f. tt) (λ f. all_memory disk.table None (error_bytes head.minor status true (is_head head.method)))
-      (λ f acts m. decline_by root held disk acts status (map Byte (error_bytes head.minor status true (is_head head.method))) head at (memory_bytes disk.table (error_bytes head.minor status true (is_head head.method))) m)
+      gives_on site held tells disk disk none here (map Byte (error_at (settings_at site (Some (arrival_of held)) (Some head)).tag head.minor status true (is_head head.method))) None true new
+      (given ∙ (λ i. answered held (map Byte (error_at (tag_is i) (form_is i).minor status (form_is i).last (form_is i).head_only)) None (form_is i).last)) (error_some (settings_at site (Some (arrival_of held)) (Some head)).tag head.minor status true (is_head head.method))
+      (λ f. same_files held.link disk None) (λ f. tt) (λ f. all_memory disk.table None (error_at (settings_at site (Some (arrival_of held)) (Some head)).tag head.minor status true (is_head head.method)))
+      (λ f past m. decline_by site held disk past status (map Byte (error_at (settings_at site (Some (arrival_of held)) (Some head)).tag head.minor status true (is_head head.method))) head at (memory_bytes disk.table (error_at (settings_at site (Some (arrival_of held)) (Some head)).tag head.minor status true (is_head head.method))) m)
 
-  pub settles_refused : (form : Form) (new : Held) (result : Option Ending) → IsRefused held.stage status → form ≡ refused_form (head_at held.stage) → GivenBy result held new (map Byte (error_bytes form.minor status form.last form.head_only)) None form.last → SettlesTo true root held new result tells disk disk
-  settles_refused form new result refused is given = refused_by form new result refused is given
+  pub settles_refused : (tag : List ℕ) (form : Form) (new : Held) (result : Option Ending) → IsRefused held.stage status → tag ≡ (settings_at site (Some (arrival_of held)) (head_at held.stage)).tag → form ≡ refused_form (head_at held.stage) → GivenBy result held new (map Byte (error_at tag form.minor status form.last form.head_only)) None form.last → SettlesTo true site held new result tells disk disk
+  settles_refused tag form new result refused called is given = refused_by tag form new result refused called is given
 
 -- one that goes on by where it stands
-module _ (may : Bool) (root : List ℕ) (held : Held) (tells : Type 0) (disk : Disk) where
-  pub goes_rests : (tells → Fits disk.table held) → Rests held → SettlesTo may root held held None tells disk disk
-  goes_rests fits rests = settle_rests root held tells disk rests.0 rests.1 fits
+module _ (may : Bool) (site : Site) (held : Held) (tells : Type 0) (disk : Disk) where
+  pub goes_rests : (tells → Fits disk.table held) → Rests held → SettlesTo may site held held None tells disk disk
+  goes_rests fits rests = settle_rests site held tells disk rests.0 rests.1 fits
 
-  pub goes_finishes : IsAdvanced held → is_done held ≡ true → SettlesTo may root held held (Some ending.Clean) tells disk disk
-  goes_finishes step done = settle_finishes root held tells disk may (step_settled held step) done
+  pub goes_finishes : IsAdvanced held → is_done held ≡ true → SettlesTo may site held held (Some ending.Clean) tells disk disk
+  goes_finishes step done = settle_finishes site held tells disk may (step_settled held step) done
 
-  pub goes_answers : (new : Held) (after : Disk) (result : Option Ending) → may ≡ true → SettlesTo true root held new result tells disk after → SettlesTo may root held new result tells disk after
-  goes_answers new after result allowed settles = subst (λ (b : Bool). SettlesTo b root held new result tells disk after) (sym allowed) settles
+  pub goes_answers : (new : Held) (after : Disk) (result : Option Ending) → may ≡ true → SettlesTo true site held new result tells disk after → SettlesTo may site held new result tells disk after
+  goes_answers new after result allowed settles = subst (λ (b : Bool). SettlesTo b site held new result tells disk after) (sym allowed) settles
 
 -- the step that what came allows, and then what follows
-module _ (root : List ℕ) (held mid : Held) (tells : Type 0) (disk : Disk) (free : IsFree held) (is : mid ≡ advanced held) where
-  pub step_then : (may : Bool) (new : Held) (after : Disk) (result : Option Ending) → SettlesTo may root mid new result tells disk after → SettlesTo may root held new result tells disk after
-  step_then may new after result settles = advance_then may root held new tells disk after result (free_freed held free)
-      (subst (λ (h : Held). SettlesTo may root h new result tells disk after) is settles)
+module _ (site : Site) (held mid : Held) (tells : Type 0) (disk : Disk) (free : IsFree held) (is : mid ≡ advanced held) where
+  pub step_then : (may : Bool) (new : Held) (after : Disk) (result : Option Ending) → SettlesTo may site mid new result tells disk after → SettlesTo may site held new result tells disk after
+  step_then may new after result settles = advance_then may site held new tells disk after result (free_freed held free)
+      (subst (λ (h : Held). SettlesTo may site h new result tells disk after) is settles)
 
-  pub step_goes : is_idle held.stage ≡ true → (new : Held) (after : Disk) (result : Option Ending) → SettlesTo (is_asking mid.stage) root mid new result tells disk after → SettlesTo (looks held) root held new result tells disk after
-  step_goes idle new after result settles = step_then (looks held) new after result (settle_more (is_asking mid.stage) (looks held) root mid new tells disk after result (asks_looks held mid is idle) settles)
+  pub step_goes : is_idle held.stage ≡ true → (new : Held) (after : Disk) (result : Option Ending) → SettlesTo (is_asking mid.stage) site mid new result tells disk after → SettlesTo (looks held) site held new result tells disk after
+  step_goes idle new after result settles = step_then (looks held) new after result (settle_more (is_asking mid.stage) (looks held) site mid new tells disk after result (asks_looks held mid is idle) settles)
 
-  pub step_reads : looks held ≡ true → (new : Held) (after : Disk) (result : Option Ending) → SettlesTo true root mid new result tells disk after → SettlesTo (looks held) root held new result tells disk after
-  step_reads looked new after result settles = step_then (looks held) new after result (goes_answers (looks held) root mid tells disk new after result looked settles)
+  pub step_reads : looks held ≡ true → (new : Held) (after : Disk) (result : Option Ending) → SettlesTo true site mid new result tells disk after → SettlesTo (looks held) site held new result tells disk after
+  step_reads looked new after result settles = step_then (looks held) new after result (goes_answers (looks held) site mid tells disk new after result looked settles)
 
   pub step_link : mid.link ≡ held.link
   step_link = ap (λ (h : Held). h.link) is ∙ advanced_link held
@@ -212,14 +231,19 @@ module _ (root : List ℕ) (held mid : Held) (tells : Type 0) (disk : Disk) (fre
   step_fits fits f = subst (Fits disk.table) (sym is) (advanced_fits disk.table held (fits f))
 
 -- without memory nothing is looked at
-pub settles_unlooked : (root : List ℕ) (held new : Held) (tells : Type 0) (disk : Disk) → new.link ≡ held.link → new.file ≡ held.file → looks held ≡ true → SettlesTo (looks held) root held new (Some ending.NoMemory) tells disk disk
-settles_unlooked root held new tells disk link file looked = goes_answers (looks held) root held tells disk new disk (Some ending.NoMemory) looked (settle_yields root held tells disk new link file)
+pub settles_unlooked : (site : Site) (held new : Held) (tells : Type 0) (disk : Disk) → new.link ≡ held.link → new.file ≡ held.file → looks held ≡ true → SettlesTo (looks held) site held new (Some ending.NoMemory) tells disk disk
+settles_unlooked site held new tells disk link file looked = goes_answers (looks held) site held tells disk new disk (Some ending.NoMemory) looked (settle_yields site held tells disk new link file)
 
-pub settles_unread : (root : List ℕ) (held new : Held) (tells : Type 0) (disk : Disk) → new.link ≡ held.link → new.file ≡ held.file → SettlesTo true root held new (Some ending.NoMemory) tells disk disk
-settles_unread root held new tells disk link file = settle_yields root held tells disk new link file
+pub settles_unread : (site : Site) (held new : Held) (tells : Type 0) (disk : Disk) → new.link ≡ held.link → new.file ≡ held.file → SettlesTo true site held new (Some ending.NoMemory) tells disk disk
+settles_unread site held new tells disk link file = settle_yields site held tells disk new link file
+
+-- the limit is that of the head which was read
+pub body_limit : (site : Site) (held : Held) (limit : ℕ) → limit ≡ (settings_at site (Some (arrival_of held)) (head_at held.stage)).body_limit
+    → (k : ℕ) (head : Head) → held.stage ≡ Heading k head → limit ≡ (settings_at site (Some (arrival_of held)) (Some head)).body_limit
+body_limit site held limit is k head at = is ∙ ap (λ (o : Option Head). (settings_at site (Some (arrival_of held)) o).body_limit) (ap head_at at)
 
 -- the body of its request is accepted, and then what follows
-module _ (root : List ℕ) (held mid : Held) (tells : Type 0) (disk : Disk) (limit : ℕ) (same : limit ≡ body_limit) (heading : stage_of held ≡ next.Head) (free : IsFree held) (is : mid ≡ accepted held limit) where
+module _ (site : Site) (held mid : Held) (tells : Type 0) (disk : Disk) (limit : ℕ) (same : (k : ℕ) (head : Head) → held.stage ≡ Heading k head → limit ≡ (settings_at site (Some (arrival_of held)) (Some head)).body_limit) (heading : stage_of held ≡ next.Head) (free : IsFree held) (is : mid ≡ accepted held limit) where
   pub body_link : mid.link ≡ held.link
   body_link = ap (λ (h : Held). h.link) is ∙ accepted_link held limit
 
@@ -235,12 +259,12 @@ module _ (root : List ℕ) (held mid : Held) (tells : Type 0) (disk : Disk) (lim
   pub body_read : stage_of (advanced mid) ≡ next.Head → ⊥
   body_read at = accepted_reads held limit (headed held heading) (ap (λ (h : Held). stage_of (advanced h)) (sym is) ∙ at)
 
-  pub body_then : (new : Held) (after : Disk) (result : Option Ending) → SettlesTo true root mid new result tells disk after → SettlesTo true root held new result tells disk after
-  body_then new after result settles = accept_then true root held new tells disk after result limit same (subst (λ (h : Held). SettlesTo true root h new result tells disk after) is settles)
+  pub body_then : (new : Held) (after : Disk) (result : Option Ending) → SettlesTo true site mid new result tells disk after → SettlesTo true site held new result tells disk after
+  body_then new after result settles = accept_then true site held new tells disk after result limit same (subst (λ (h : Held). SettlesTo true site h new result tells disk after) is settles)
 
-  pub body_goes : (now new : Held) (after : Disk) (result : Option Ending) → now ≡ advanced mid → SettlesTo (is_asking now.stage) root now new result tells disk after → SettlesTo true root held new result tells disk after
+  pub body_goes : (now new : Held) (after : Disk) (result : Option Ending) → now ≡ advanced mid → SettlesTo (is_asking now.stage) site now new result tells disk after → SettlesTo true site held new result tells disk after
   body_goes now new after result now_is settles = body_then new after result
-      (step_then root mid now tells disk body_free now_is true new after result (settle_more (is_asking now.stage) true root now new tells disk after result (λ e. refl) settles))
+      (step_then site mid now tells disk body_free now_is true new after result (settle_more (is_asking now.stage) true site now new tells disk after result (λ e. refl) settles))
 
 -- one that is answered rests
 pub given_waits : (result : Option Ending) (old new : Held) (items : List Item) (file : Option ℕ) (last : Bool) → has_no_items items ≡ false → GivenBy result old new items file last → WaitsOn result new
@@ -263,14 +287,20 @@ given_file result old new bytes text none body file size last nothing pushed sam
     (ap (λ (b : List ℕ). map Byte b ++ items_of body) same ∙ ap (λ (items : List Item). map Byte text ++ items) (pushed ∙ ap (λ (b : Contents). items_of b ++ range file 0 size) nothing)) given
 
 -- in the form that its request asks for
-pub error_formed : (result : Option Ending) (old new : Held) (status : ℕ) (f g : Form) → f ≡ g → GivenBy result old new (map Byte (error_bytes f.minor status f.last f.head_only)) None f.last → GivenBy result old new (map Byte (error_bytes g.minor status g.last g.head_only)) None g.last
-error_formed result old new status f g same given = subst (λ (h : Form). GivenBy result old new (map Byte (error_bytes h.minor status h.last h.head_only)) None h.last) same given
+pub error_formed : (result : Option Ending) (old new : Held) (status : ℕ) (t u : List ℕ) (f g : Form) → t ≡ u → f ≡ g → GivenBy result old new (map Byte (error_at t f.minor status f.last f.head_only)) None f.last → GivenBy result old new (map Byte (error_at u g.minor status g.last g.head_only)) None g.last
+error_formed result old new status t u f g called same given =
+    subst (λ (h : Form). GivenBy result old new (map Byte (error_at u h.minor status h.last h.head_only)) None h.last) same
+    (subst (λ (v : List ℕ). GivenBy result old new (map Byte (error_at v f.minor status f.last f.head_only)) None f.last) called given)
 
-pub bare_formed : (result : Option Ending) (old new : Held) (size : ℕ) (f g : Form) → f ≡ g → GivenBy result old new (map Byte (file_head f.minor size f.last)) None f.last → GivenBy result old new (map Byte (file_head g.minor size g.last)) None g.last
-bare_formed result old new size f g same given = subst (λ (h : Form). GivenBy result old new (map Byte (file_head h.minor size h.last)) None h.last) same given
+pub bare_formed : (result : Option Ending) (old new : Held) (size : ℕ) (t u : List ℕ) (f g : Form) → t ≡ u → f ≡ g → GivenBy result old new (map Byte (file_at t f.minor size f.last)) None f.last → GivenBy result old new (map Byte (file_at u g.minor size g.last)) None g.last
+bare_formed result old new size t u f g called same given =
+    subst (λ (h : Form). GivenBy result old new (map Byte (file_at u h.minor size h.last)) None h.last) same
+    (subst (λ (v : List ℕ). GivenBy result old new (map Byte (file_at v f.minor size f.last)) None f.last) called given)
 
-pub file_formed : (result : Option Ending) (old new : Held) (file size : ℕ) (f g : Form) → f ≡ g → GivenBy result old new (map Byte (file_head f.minor size f.last) ++ range file 0 size) (Some file) f.last → GivenBy result old new (map Byte (file_head g.minor size g.last) ++ range file 0 size) (Some file) g.last
-file_formed result old new file size f g same given = subst (λ (h : Form). GivenBy result old new (map Byte (file_head h.minor size h.last) ++ range file 0 size) (Some file) h.last) same given
+pub file_formed : (result : Option Ending) (old new : Held) (file size : ℕ) (t u : List ℕ) (f g : Form) → t ≡ u → f ≡ g → GivenBy result old new (map Byte (file_at t f.minor size f.last) ++ range file 0 size) (Some file) f.last → GivenBy result old new (map Byte (file_at u g.minor size g.last) ++ range file 0 size) (Some file) g.last
+file_formed result old new file size t u f g called same given =
+    subst (λ (h : Form). GivenBy result old new (map Byte (file_at u h.minor size h.last) ++ range file 0 size) (Some file) h.last) same
+    (subst (λ (v : List ℕ). GivenBy result old new (map Byte (file_at v f.minor size f.last) ++ range file 0 size) (Some file) f.last) called given)
 
 -- a file that has bytes ends a body
 range_body : (file start n : ℕ) → 0 < n → EndsInFile file (range file start n)
@@ -293,19 +323,19 @@ pub kept_with : (p q r : PoolState) (none : Contents) (l body m : List ℕ) → 
 kept_with p q r none l body m nothing pushed given = subst (λ (g : List ℕ). Kept p g r m) (append-nil l)
     (kept_both p q r (l ++ []) (l ++ body) m (kept_beside p q l [] body (subst (λ (b : Contents). Kept p b.numbers q body) nothing pushed)) given)
 
-pub plans_as : (p q : Planned) → p ≡ q → (root : List ℕ) (client k : ℕ) (head : Head) (before after : Disk) → Plans p root client k head before after → Plans q root client k head before after
-plans_as p q is root client k head before after plans = subst (λ (x : Planned). Plans x root client k head before after) is plans
+pub plans_as : (p q : Planned) → p ≡ q → (site : Site) (arrival : Option Arrival) (client k : ℕ) (head : Head) (before after : Disk) → Plans p site arrival client k head before after → Plans q site arrival client k head before after
+plans_as p q is site arrival client k head before after plans = subst (λ (x : Planned). Plans x site arrival client k head before after) is plans
 
-pub plans_at : (p : Planned) (a b : List ℕ) (m n j k : ℕ) (g h : Head) (before after : Disk) → a ≡ b → m ≡ n → j ≡ k → g ≡ h → Plans p a m j g before after → Plans p b n k h before after
-plans_at p a b m n j k g h before after root client number head plans =
-    subst (λ (r : List ℕ). Plans p r n k h before after) root (subst (λ (c : ℕ). Plans p a c k h before after) client (subst (λ (i : ℕ). Plans p a m i h before after) number (subst (λ (x : Head). Plans p a m j x before after) head plans)))
+pub plans_at : (p : Planned) (site : Site) (arrival : Option Arrival) (m n j k : ℕ) (g h : Head) (before after : Disk) → m ≡ n → j ≡ k → g ≡ h → Plans p site arrival m j g before after → Plans p site arrival n k h before after
+plans_at p site arrival m n j k g h before after client number head plans =
+    subst (λ (c : ℕ). Plans p site arrival c k h before after) client (subst (λ (i : ℕ). Plans p site arrival m i h before after) number (subst (λ (x : Head). Plans p site arrival m j x before after) head plans))
 
 -- the head that was read is the one of the request
 pub same_head : (g h : Head) (o : Option Head) → Some g ≡ o → o ≡ Some h → g ≡ h
 same_head g h o a b = let s : Some g ≡ Some h = a ∙ b in cc (s)
 
-pub form_at : (form : Form) (j k : ℕ) (g h : Head) → form ≡ form_of j g → j ≡ k → g ≡ h → form ≡ form_of k h
-form_at form j k g h is number head = is ∙ (λ i. form_of (number i) (head i))
+pub form_at : (form : Form) (m n j k : ℕ) (g h : Head) → form ≡ form_of m j g → m ≡ n → j ≡ k → g ≡ h → form ≡ form_of n k h
+form_at form m n j k g h is limit number head = is ∙ (λ i. form_of (limit i) (number i) (head i))
 
 -- what another call gave is given back at once
 pub kept_closed : (p q r : PoolState) (g l m : List ℕ) → Kept p g q (l ++ m) → Kept q m r [] → Kept p g r l

@@ -8,6 +8,7 @@ use Rattle.lt_world.specs.Causes.{Rose}
 use Rattle.lt_world.specs.Disk.{Disk, Table}
 use Rattle.lt_world.specs.Trace.{Act, Entry, Writing, Wrote, NotYet, Failed, said}
 use Rattle.chunkqueue.specs.Items.{Item, Byte, FileByte, AllLie, Leads, Shows}
+use Rattle.server_model.specs.Site.{Site}
 use Rattle.server_model.specs.Deeds.{Ours, told}
 use Rattle.server_model.specs.Held.{Stage, Awaiting, Heading, Taking, Asking, Answering, Held}
 use Rattle.server_model.specs.Steps.{number_of, took, wrote, staged, without_file, looks, has_no_items, room_of, wants_read}
@@ -46,8 +47,8 @@ pub no_room : (held : Held) (room : ℕ) → room ≡ room_of held → room ≡ 
 no_room held room is none = let zero_is : room_of held ≡ 0 = sym is ∙ none in ap (λ (n : ℕ). nat_lt 0 n) zero_is
 
 -- what settles after a read, for which memory may always be wanted
-pub settles_read : (root : List ℕ) (mid held new : Held) (files : Type 0) (before after : Disk) (result : Option Ending) → mid ≡ held → SettlesTo (looks mid) root mid new result files before after → SettlesTo true root held new result files before after
-settles_read root mid held new files before after result is settles = subst (λ (h : Held). SettlesTo true root h new result files before after) is (settle_more (looks mid) true root mid new files before after result (λ e. refl) settles)
+pub settles_read : (site : Site) (mid held new : Held) (files : Type 0) (before after : Disk) (result : Option Ending) → mid ≡ held → SettlesTo (looks mid) site mid new result files before after → SettlesTo true site held new result files before after
+settles_read site mid held new files before after result is settles = subst (λ (h : Held). SettlesTo true site h new result files before after) is (settle_more (looks mid) true site mid new files before after result (λ e. refl) settles)
 
 pub same_table : (a b c : Disk) → b ≡ a → c ≡ b → c.table ≡ a.table
 same_table a b c one two = ap (λ (d : Disk). d.table) (two ∙ one)
@@ -64,11 +65,11 @@ pub fault_later : (client number : ℕ) (before later : Seen) (faults : ℕ) (fa
 fault_later client number before later faults failed_read rose owner more same = record { rose = omega (arith, rose, more); owner = record { conn = client; request = number }; is = same ∙ owner; conn = refl; request = refl }
 
 -- a fault of the file
-pub faults_goes : (failed : ℕ → Type 0) (root : List ℕ) (held new : Held) (net files : Type 0) (before after : Disk) (old : List Entry) → 0 < length held.owed → (files → failed (number_of held.stage)) → new ≡ held → (files → after ≡ before)
-    → GoesBy Stands (DueWrite failed) root held new (Some ending.FileFault) net files before after old old
-faults_goes failed root held new net files before after old some fault same disk =
-    same_goes Stands (DueWrite failed) (DueWrite failed) root held new net files before after after old old (λ f was is past all due. due) (λ f. sym (disk f)) (Some ending.FileFault)
-    (write_faults failed root held net files after old new some fault (ap (λ (h : Held). h.link) same) (ap (λ (h : Held). h.file) same))
+pub faults_goes : (failed : ℕ → Type 0) (site : Site) (held new : Held) (net files : Type 0) (before after : Disk) (old : List Entry) → 0 < length held.owed → (files → failed (number_of held.stage)) → new ≡ held → (files → after ≡ before)
+    → GoesBy Stands (DueWrite failed) site held new (Some ending.FileFault) net files before after old old
+faults_goes failed site held new net files before after old some fault same disk =
+    same_goes Stands (DueWrite failed) (DueWrite failed) site held new net files before after after old old (λ f was is past all due. due) (λ f. sym (disk f)) (Some ending.FileFault)
+    (write_faults failed site held net files after old new some fault (ap (λ (h : Held). h.link) same) (ap (λ (h : Held). h.file) same))
 
 -- what was staged keeps the stage, and what was taken too
 module _ (held mid : Held) (is : mid ≡ staged held mid.staged) (n : ℕ) where
@@ -125,7 +126,7 @@ module _ (held mid : Held) (is : mid ≡ staged held mid.staged) (n : ℕ) where
   still_same before after dropped some = subst (λ (t : Bool). Drops (if t then mid.file else None) before after) some dropped
 
 -- what is owed was staged, and offered
-module _ (failed : ℕ → Type 0) (root : List ℕ) (held mid : Held) (net files : Type 0) (before disk : Disk) (old now : List Entry)
+module _ (failed : ℕ → Type 0) (site : Site) (held mid : Held) (net files : Type 0) (before disk : Disk) (old now : List Entry)
     (is : mid ≡ staged held mid.staged) (some : 0 < length held.owed) (reads : files → Shows before.table held.owed held.staged → Shows before.table held.owed mid.staged) (same : files → disk ≡ before)
     (front : List ℕ) (leads : Leads mid.owed mid.staged front) (any : 1 ≤ length front) (most : length front ≤ offer_limit) where
   reads_on : files → Shows disk.table held.owed held.staged → Shows disk.table held.owed mid.staged
@@ -133,22 +134,22 @@ module _ (failed : ℕ → Type 0) (root : List ℕ) (held mid : Held) (net file
       let P : List ℕ → Disk → Type 0 = λ bytes d. Shows d.table held.owed bytes in
       subst (P mid.staged) (sym (same f)) (reads f (subst (P held.staged) (same f) shows))
 
-  via : (new : Held) (after : Disk) (result : Option Ending) → GoesBy Stands (DueWrite failed) root mid new result net files disk after old now → GoesBy Stands (DueWrite failed) root held new result net files before after old now
-  via new after result goes = same_goes Stands (DueWrite failed) (DueWrite failed) root held new net files before disk after old now (λ f was is past all due. due) (λ f. sym (same f)) result
-      (staged_then failed root held net files disk mid.staged new result after old now some reads_on (subst (λ (h : Held). GoesBy Stands (DueWrite failed) root h new result net files disk after old now) is goes))
+  via : (new : Held) (after : Disk) (result : Option Ending) → GoesBy Stands (DueWrite failed) site mid new result net files disk after old now → GoesBy Stands (DueWrite failed) site held new result net files before after old now
+  via new after result goes = same_goes Stands (DueWrite failed) (DueWrite failed) site held new net files before disk after old now (λ f was is past all due. due) (λ f. sym (same f)) result
+      (staged_then failed site held net files disk mid.staged new result after old now some reads_on (subst (λ (h : Held). GoesBy Stands (DueWrite failed) site h new result net files disk after old now) is goes))
 
-  pub offered_not_yet : (net → now ≡ told mid.link (Ours (NotYet Writing) ∷ []) old) → (files → Fits before.table held) → GoesBy Stands (DueWrite failed) root held mid None net files before disk old now
-  offered_not_yet gains fits = via mid disk None (write_not_yet failed root mid net files disk old now front leads any most gains
+  pub offered_not_yet : (net → now ≡ told mid.link (Ours (NotYet Writing) ∷ []) old) → (files → Fits before.table held) → GoesBy Stands (DueWrite failed) site held mid None net files before disk old now
+  offered_not_yet gains fits = via mid disk None (write_not_yet failed site mid net files disk old now front leads any most gains
       (λ f. let here = fits f in subst (λ (d : Disk). Fits d.table mid) (sym (same f)) (subst (Fits before.table) (sym is) (record { is_open = here.is_open; owed = here.owed }))))
 
-  pub offered_failed : (net → now ≡ told mid.link (Ours (Failed Writing) ∷ []) old) → GoesBy Stands (DueWrite failed) root held mid (Some ending.ClientFault) net files before disk old now
-  offered_failed gains = via mid disk (Some ending.ClientFault) (write_failed failed root mid net files disk old now front leads any most gains)
+  pub offered_failed : (net → now ≡ told mid.link (Ours (Failed Writing) ∷ []) old) → GoesBy Stands (DueWrite failed) site held mid (Some ending.ClientFault) net files before disk old now
+  offered_failed gains = via mid disk (Some ending.ClientFault) (write_failed failed site mid net files disk old now front leads any most gains)
 
   pub offered_wrote : (between after : Disk) (mid_new new : Held) (result : Option Ending) (n : ℕ) → n ≤ length front → (net → now ≡ told mid.link (Ours (Wrote (length front) (take n front)) ∷ []) old) → mid_new ≡ wrote mid n
-      → (files → Drops (done_file mid n) disk between) → SettlesTo (looks mid_new) root mid_new new result files between after → GoesBy Stands (DueWrite failed) root held new result net files before after old now
-  offered_wrote between after mid_new new result n le gains took_is dropped settles = via new after result (write_then failed root mid net files disk old now front leads any most between after new result n le gains
+      → (files → Drops (done_file mid n) disk between) → SettlesTo (looks mid_new) site mid_new new result files between after → GoesBy Stands (DueWrite failed) site held new result net files before after old now
+  offered_wrote between after mid_new new result n le gains took_is dropped settles = via new after result (write_then failed site mid net files disk old now front leads any most between after new result n le gains
       dropped
-      (subst (λ (h : Held). SettlesTo (looks h) root h new result files between after) took_is settles))
+      (subst (λ (h : Held). SettlesTo (looks h) site h new result files between after) took_is settles))
 
 pub none_owed : (items : List Item) → false ≡ nat_lt 0 (length items) → items ≡ []
 none_owed [] is = refl

@@ -7,7 +7,8 @@ use Rattle.lt_world.specs.declared.net.Address.{Address}
 use Rattle.lt_world.specs.declared.net.Ending.{Ending}
 use Rattle.lt_world.specs.Disk.{Disk}
 use Rattle.lt_world.specs.Trace.{Act, Entry, Close, said}
-use Rattle.server_model.specs.Plan.{World}
+use Rattle.server_model.specs.Site.{Site}
+use Rattle.server_model.specs.World.{World}
 use Rattle.server_model.specs.Deeds.{Deed, Ours, told}
 use Rattle.server_model.specs.Held.{Held, IsPlace, kept_at}
 use Rattle.server_model.specs.Steps.{arrived}
@@ -15,7 +16,7 @@ use Rattle.server_model.specs.Files.{Backs, Drops, IsTable}
 use Rattle.server_model.specs.Serves.{Stands}
 use Rattle.server_model.specs.Turns.{Seen, StepsBy, TurnsOn}
 use Rattle.server_model.proofs.Changing.{Changes, table_on}
-use Rattle.server_model.proofs.Requests.{request_of_nil}
+use Rattle.server_model.proofs.Requests.{front_of_nil}
 use Rattle.server_model.proofs.Turning.{IsReady, IsDue, turn_step, backs_step}
 use Rattle.connection.specs.Connection.{Connected}
 use Rattle.server_core.specs.Steps.{IsResting}
@@ -33,13 +34,13 @@ pub close_told : (l m : ℕ) (e : Ending) (old now : List Entry) → l ≡ m →
 close_told l m e old now same is = is ∙ ap (λ (n : ℕ). said n (Close e ∷ []) old) same
 
 module _ (event : Act) (due : Seen → Seen → ℕ → World → World → List Deed → List Deed → Type 0) (ready : IsReady event) (is_due : IsDue event due)
-    (link : ℕ) (root : List ℕ) (conns next : List Connected) (held : Held) (now : Option Held) (net files : Type 0) (before after : Seen) (old told_now : List Entry)
+    (link : ℕ) (site : Site) (conns next : List Connected) (held : Held) (now : Option Held) (net files : Type 0) (before after : Seen) (old told_now : List Entry)
     (here : held.link ≡ link) (kept : kept_at link (helds conns) ≡ Some held) (change : Changes link (helds conns) (helds next) now) (backs : files → Backs before.disk.table (helds conns))
-    (step : StepsBy Stands (due before after held.link) root held now net files before.disk after.disk old told_now) where
-  pub conns_turn : before.faults ≤ after.faults → TurnsOn event link (serving root conns) (serving root next) net files before after old told_now
+    (step : StepsBy Stands (due before after held.link) site held now net files before.disk after.disk old told_now) where
+  pub conns_turn : before.faults ≤ after.faults → TurnsOn event link (serving site conns) (serving site next) net files before after old told_now
   conns_turn rises =
-      let P : ℕ → Type 0 = λ l. (kept_at l (helds conns) ≡ Some held) → Changes l (helds conns) (helds next) now → TurnsOn event l (serving root conns) (serving root next) net files before after old told_now in
-      subst P here (λ k ch. turn_step event due ready is_due root (helds conns) (helds next) held now net files before after old told_now k ch backs step rises) kept change
+      let P : ℕ → Type 0 = λ l. (kept_at l (helds conns) ≡ Some held) → Changes l (helds conns) (helds next) now → TurnsOn event l (serving site conns) (serving site next) net files before after old told_now in
+      subst P here (λ k ch. turn_step event due ready is_due site (helds conns) (helds next) held now net files before after old told_now k ch backs step rises) kept change
 
   pub conns_backs : files → Backs after.disk.table (helds next)
   conns_backs f =
@@ -50,7 +51,7 @@ pub conns_table : (links more link : ℕ) (conns next : List Connected) (now : O
 conns_table links more link conns next now change same below is = table_on links more link (helds conns) (helds next) now is change (omega (arith, same)) (omega (arith, same, below))
 
 arrived_rests : (link : ℕ) (peer local : Address) → IsResting (arrived link peer local)
-arrived_rests link peer local = (request_of_nil, refl)
+arrived_rests link peer local = (front_of_nil, refl)
 
 -- a client that arrives is kept
 pub push_kept : (link : ℕ) (peer local : Address) (conns next : List Connected) (new : Connected) → new.held ≡ arrived link peer local → new.numbers ≡ [] → next ≡ conns ++ new ∷ [] → IsTable link (helds conns)

@@ -2,12 +2,12 @@
 use Rattle.std.specs.Prelude.{ℕ, true, false, Option, Some, None}
 use Rattle.server_model.specs.Request.{Head}
 use Rattle.server_model.specs.Plan.{is_head}
-use Rattle.server_model.specs.Reply.{is_last_request}
+use Rattle.server_model.specs.Settings.{is_last_request}
 use Rattle.server_core.specs.declared.form.Form.{Form}
 
--- the reply to request k
-abbrev pub form_of : ℕ → Head → Form
-form_of k head = record { minor = head.minor; last = is_last_request k head; head_only = is_head head.method }
+-- the reply to request k, where a connection may send so many
+abbrev pub form_of : ℕ → ℕ → Head → Form
+form_of limit k head = record { minor = head.minor; last = is_last_request limit k head; head_only = is_head head.method }
 
 -- the reply to a request that is refused, of which this head was read
 abbrev pub refused_form : Option Head → Form

@@ -1,18 +1,20 @@
 -- What the code plans for a request.
-use Rattle.std.specs.Prelude.{◌≡◌, ℕ, ◌<◌, ◌^◌, List, None, true}
+use Rattle.std.specs.Prelude.{◌≡◌, ℕ, ◌<◌, ◌^◌, List, None, true, Option}
 use Rattle.lt_world.specs.declared.files.FileCall.TheVariants as call
 use Rattle.lt_world.specs.declared.net.Owner.{Owner}
 use Rattle.lt_world.specs.Disk.{Disk, asked}
 use Rattle.lt_world.specs.FileAnswers.{OpensFile}
+use Rattle.server_model.specs.World.{Arrival}
+use Rattle.server_model.specs.Site.{Site}
 use Rattle.server_model.specs.Request.{Head}
 use Rattle.server_model.specs.Planning.{CallsFor, PlansError, PlansFile}
 use Rattle.server_core.specs.declared.plan.Planned.{Planned}
 use Rattle.server_core.specs.declared.plan.Planned.TheVariants.{Error, File, NoMemory}
 
-abbrev pub Plans : Planned → List ℕ → ℕ → ℕ → Head → Disk → Disk → Type 0
-Plans (Error status) root client k head before after = PlansError status root client k head before after
-Plans (File file size) root client k head before after = PlansFile file.0 size root client k head before after
-Plans NoMemory root client k head before after = CallsFor root client k None before after
+abbrev pub Plans : Planned → Site → Option Arrival → ℕ → ℕ → Head → Disk → Disk → Type 0
+Plans (Error status) site arrival client k head before after = PlansError status site arrival client k head before after
+Plans (File file size) site arrival client k head before after = PlansFile file.0 size site arrival client k head before after
+Plans NoMemory site arrival client k head before after = CallsFor site client k None before after
 
 -- what the answer to an open becomes
 abbrev pub OpensAs : Planned → Owner → List ℕ → Disk → Disk → Type 0

@@ -3,6 +3,7 @@ use Rattle.std.specs.Prelude.{ℕ, ◌+◌, ◌<◌, List, [], ◌∷◌, length
 use Rattle.lt_world.specs.Disk.{Disk, released}
 use Rattle.buffer_pool.specs.State.{PoolState}
 use Rattle.buffer_pool.specs.Kept.{HeldWithin}
+use Rattle.server_model.specs.Site.{Site}
 use Rattle.server_model.specs.Held.{Held, Serving}
 use Rattle.connection.specs.Connection.{Connected}
 use Rattle.server_core.specs.Steps.{IsResting}
@@ -11,8 +12,8 @@ use Rattle.server_core.specs.Steps.{IsResting}
 abbrev pub helds : List Connected → List Held
 helds conns = map (λ c. c.held) conns
 
-abbrev pub serving : List ℕ → List Connected → Serving
-serving root conns = record { root = root; table = helds conns }
+abbrev pub serving : Site → List Connected → Serving
+serving site conns = record { site = site; table = helds conns }
 
 -- how many buffers their queues hold
 abbrev pub held_count : List Connected → ℕ

@@ -3,14 +3,15 @@ use Rattle.std.specs.Prelude.{◌≡◌, ℕ, ◌<◌, List}
 use Rattle.lt_world.specs.declared.net.NextKind.{NextKind}
 use Rattle.lt_world.specs.declared.net.NextKind.TheVariants as kind
 use Rattle.lt_world.specs.Trace.{Entry}
+use Rattle.server_model.specs.Site.{Site}
 use Rattle.server_model.specs.Turns.{Seen, IsTurn}
 use Rattle.server_core.specs.declared.turn.Turn.{Turn}
 use Rattle.server_core.specs.declared.turn.Turn.TheVariants as turn
 
 -- what the trace gained, by the answer
-abbrev pub Turned : Turn → List ℕ → Seen → Seen → List Entry → List Entry → Type 0
-Turned turn.Did root before after old now = IsTurn root before after old now
-Turned other root before after old now = now ≡ old
+abbrev pub Turned : Turn → Site → Seen → Seen → List Entry → List Entry → Type 0
+Turned turn.Did site before after old now = IsTurn site before after old now
+Turned other site before after old now = now ≡ old
 
 -- a fact where nothing was done
 abbrev pub OnRest : Turn → Type 0 → Type 0

@@ -1,13 +1,10 @@
 //! What a request settles of its reply's form.
 ghost use Rattle.std.specs.Prelude.{◌≡◌, option_map};
-ghost use Rattle.server_model.specs.Reply.{is_last_request};
+ghost use Rattle.server_model.specs.Settings.{is_last_request, is_reached};
 ghost use Rattle.server_model.specs.Plan.{is_head, is_served};
 ghost use Rattle.server_core.specs.Form.{form_of, refused_form};
 
 use http_head::Request;
-
-/// Requests that one connection may send.
-const REQUEST_LIMIT: u32 = 100;
 
 /// How the reply to a request is spelled, whatever it says.
 #[derive(Clone, Copy)]
@@ -21,13 +18,13 @@ pub(crate) struct Form {
 }
 
 impl Form {
-    /// That of the reply to a request of this number, counted from 0.
-    pub(crate) fn of(request: &Request, number: u32) -> Form
-        ensures form { result ≡ form_of number request.now }
+    /// That of the reply to a request of this number, counted from 0, where a connection may send so many.
+    pub(crate) fn of(request: &Request, number: u32, limit: u32) -> Form
+        ensures form { result ≡ form_of limit number request.now }
     {
         Form {
             minor: request.minor,
-            last: is_last(request, number),
+            last: is_last(request, number, limit),
             head_only: is_head(request),
         }
     }
@@ -51,10 +48,16 @@ impl Form {
     }
 }
 
-fn is_last(request: &Request, number: u32) -> bool
-    ensures { result ≡ is_last_request number request.now }
+fn is_last(request: &Request, number: u32, limit: u32) -> bool
+    ensures { result ≡ is_last_request limit number request.now }
 {
-    request.close || number >= REQUEST_LIMIT - 1
+    request.close || is_reached(number, limit)
+}
+
+fn is_reached(number: u32, limit: u32) -> bool
+    ensures { result ≡ is_reached limit number }
+{
+    number >= u32::MAX || number + 1 >= limit
 }
 
 fn is_head(request: &Request) -> bool

@@ -10,6 +10,7 @@ mod form;
 mod plan;
 mod replies;
 mod server;
+mod settings;
 mod settle;
 mod site;
 mod step;

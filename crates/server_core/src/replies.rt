@@ -1,6 +1,7 @@
 //! The replies that the server spells.
 ghost use Rattle.std.specs.Prelude.{◌≡◌, ◌≤◌, ◌<◌, ◌&&◌, ◌==◌, [], ◌∷◌, length, not, IfOk, codes};
-ghost use Rattle.server_model.specs.Reply.{error_bytes, error_fields, file_head, file_fields};
+ghost use Rattle.server_model.specs.Plan.{error_fields, file_fields};
+ghost use Rattle.server_model.specs.Reply.{error_bytes, content_head};
 
 use crate::form::Form;
 use http_reply::{Fields, Spelling, error_reply, reply_head};
@@ -9,8 +10,6 @@ use std::alloc::Global;
 
 /// A bound on the bytes of a reply that the server spells itself.
 pub(crate) const REPLY_LIMIT: usize = 65_536;
-
-const TAG: &[u8; 8] = b"lighttpd";
 
 /// The fields of an error reply, those that name what is allowed instead, and those before a file.
 #[derive(Drop)]
@@ -47,20 +46,32 @@ impl Replies {
     }
 
     /// An error reply, whole.
-    pub(crate) fn error(&self, alloc: Global, form: Form, status: u16) -> Result<Text, NoMemory>
-        ensures spelled { IfOk result (λ text. text ≡ error_bytes form.minor status form.last form.head_only) }
+    pub(crate) fn error(
+        &self,
+        alloc: Global,
+        tag: &[u8],
+        form: Form,
+        status: u16,
+    ) -> Result<Text, NoMemory>
+        ensures spelled { IfOk result (λ text. text ≡ error_bytes tag.now form.minor status (error_fields status) form.last form.head_only) }
         ensures short { IfOk result (λ text. length text ≤ REPLY_LIMIT) }
     {
-        let spelling = spelling(form, status, None);
+        let spelling = spelling(tag, form, status, None);
         short(error_reply(alloc, &spelling, self.error_fields(status), form.head_only)?)
     }
 
     /// The head before a file of so many bytes.
-    pub(crate) fn file_head(&self, alloc: Global, form: Form, size: u64) -> Result<Text, NoMemory>
-        ensures spelled { IfOk result (λ text. text ≡ file_head form.minor size form.last) }
+    pub(crate) fn file_head(
+        &self,
+        alloc: Global,
+        tag: &[u8],
+        form: Form,
+        size: u64,
+    ) -> Result<Text, NoMemory>
+        ensures spelled { IfOk result (λ text. text ≡ content_head tag.now form.minor 200 file_fields size form.last) }
         ensures short { IfOk result (λ text. length text ≤ REPLY_LIMIT) }
     {
-        short(reply_head(alloc, &spelling(form, 200, Some(size)), &self.content)?)
+        short(reply_head(alloc, &spelling(tag, form, 200, Some(size)), &self.content)?)
     }
 }
 
@@ -76,13 +87,13 @@ fn short(text: Text) -> Result<Text, NoMemory>
 }
 
 // HTTP/1.0 is told that its connection is kept.
-fn spelling(form: Form, status: u16, length: Option<u64>) -> Spelling<'static>
+fn spelling(tag: &[u8], form: Form, status: u16, length: Option<u64>) -> Spelling<'_>
     ensures minor { result.minor ≡ form.minor }
     ensures status { result.status ≡ status }
     ensures length { result.length ≡ length }
     ensures last { result.last ≡ form.last }
     ensures keep { result.keep ≡ (not form.last && form.minor == 0) }
-    ensures tag { result.tag.now ≡ codes "lighttpd" }
+    ensures tag { result.tag.now ≡ tag.now }
 {
     Spelling {
         minor: form.minor,
@@ -90,6 +101,6 @@ fn spelling(form: Form, status: u16, length: Option<u64>) -> Spelling<'static>
         length,
         last: form.last,
         keep: !form.last && form.minor == 0,
-        tag: TAG,
+        tag,
     }
 }

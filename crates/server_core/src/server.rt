@@ -3,6 +3,7 @@ ghost use Rattle.std.specs.Prelude.{◌≡◌, ◌+◌, ◌≤◌, ℕ, List, []
 ghost use Rattle.buffer_pool.specs.Kept.{HeldWithin};
 ghost use Rattle.lt_world.specs.Disk.{Disk};
 ghost use Rattle.lt_world.specs.Trace.{Entry};
+ghost use Rattle.server_model.specs.Site.{site_at};
 ghost use Rattle.server_model.specs.Files.{IsTable, Backs};
 ghost use Rattle.server_model.specs.Serves.{Serves};
 ghost use Rattle.server_core.specs.Steps.{seen_as};
@@ -44,7 +45,7 @@ impl Model for Server {
 impl Server {
     /// A server of the files below a document root, with no client.
     pub fn new(alloc: Global, root: Text) -> Result<Server, NoMemory>
-        ensures root { IfOk result (λ server. server.root ≡ root) }
+        ensures site { IfOk result (λ server. server.site ≡ site_at root) }
         ensures empty { IfOk result (λ server. server.table ≡ []) }
         ensures table { IfOk result (λ server. (links : ℕ) → IsTable links server.table) }
         ensures backs { IfOk result (λ server. (disk : Disk) → Backs disk.table server.table) }
@@ -72,9 +73,9 @@ impl Server {
         // The server stands for what the net and the files tell, and what was due for the event was done.
         ensures serves { N.tells → F.tells → Serves (F.disk files.old) (serving_at self.old) (N.trace net.old) →
             Serves (F.disk files.new) (serving_at self.new) (N.trace net.new) ×
-            Turned result self.old.root (seen_as (F.disk files.old) (F.faults files.old) (F.failed_read files.old))
+            Turned result self.old.site (seen_as (F.disk files.old) (F.faults files.old) (F.failed_read files.old))
             (seen_as (F.disk files.new) (F.faults files.new) (F.failed_read files.new)) (N.trace net.old) (N.trace net.new) }
-        ensures root { self.new.root ≡ self.old.root }
+        ensures site { self.new.site ≡ self.old.site }
 
         // Bodies move: few bytes are put into buffers or moved in them, whatever their size.
         ensures filled { self.new.filled ≤ self.old.filled + 262144 }

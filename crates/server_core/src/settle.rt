@@ -1,11 +1,13 @@
 //! What follows once bytes came or were taken: a request that is there by then is answered.
-ghost use Rattle.std.specs.Prelude.{◌≡◌, ◌≢◌, ℕ, ◌+◌, ◌-◌, ◌*◌, ◌≤◌, ◌<◌, ◌^◌, ◌++◌, List, [], length, map, None, true, false};
+ghost use Rattle.std.specs.Prelude.{◌≡◌, ◌≢◌, ℕ, ◌+◌, ◌-◌, ◌*◌, ◌≤◌, ◌<◌, ◌^◌, ◌++◌, List, [], length, map, Some, None, true, false};
 ghost use Rattle.buffer_pool.specs.Kept.{Kept, HeldWithin};
 ghost use Rattle.lt_world.specs.Disk.{Disk};
 ghost use Rattle.chunkqueue.specs.Items.{Byte, items_of, staged_of, count_of};
 ghost use Rattle.server_model.specs.Request.{Head, Complete};
-ghost use Rattle.server_model.specs.Held.{Asking};
+ghost use Rattle.server_model.specs.Held.{Asking, arrival_of};
 ghost use Rattle.server_model.specs.Planning.{PlansFile};
+ghost use Rattle.server_model.specs.Plan.{error_fields};
+ghost use Rattle.server_model.specs.Settings.{settings_at};
 ghost use Rattle.server_model.specs.Reply.{error_bytes};
 ghost use Rattle.server_model.specs.Files.{Fits};
 ghost use Rattle.server_model.specs.Settling.{SettlesTo};
@@ -15,18 +17,17 @@ ghost use Rattle.connection.specs.Stages.{stage_of, is_asking};
 ghost use Rattle.connection.specs.declared.stage.Stage.TheVariants as next;
 ghost use Rattle.server_core.specs.Form.{form_of};
 ghost use Rattle.server_core.specs.Planned.{Plans, PlansWithin};
+ghost use Rattle.server_core.specs.Served.{served};
 ghost use Rattle.server_core.specs.Steps.{is_idle, IsFree, IsAdvanced, WaitsOn, GivenBy};
 
 use crate::form::Form;
 use crate::plan::{Planned, plan};
 use crate::replies::REPLY_LIMIT;
+use crate::settings::settings_for;
 use crate::site::Site;
 use chunkqueue::{BUFFER_SIZE, Chunks, Queue, Store};
 use connection::{Conn, INPUT_LIMIT, Stage};
 use lt_world::{Ending, FileId, Files};
-
-/// Bytes of a request's body, at most: the default of `server.max-request-size`, 1,024 KiB.
-const BODY_LIMIT: u64 = 1_048_576;
 
 // Bytes that are copied into buffers for a reply, at most: its head, and those of two chunks of its body.
 const REPLY_FILL: usize = REPLY_LIMIT + 2 * BUFFER_SIZE;
@@ -47,7 +48,7 @@ pub(crate) fn settle<F: Files>(
     requires idle { is_idle conn.old.held.stage ≡ true }
     requires free { IsFree conn.old.held }
     requires fits { F.tells → Fits (F.disk files.old).table conn.old.held }
-    ensures settles { SettlesTo (looks conn.old.held) site.now.root conn.old.held conn.new.held result F.tells (F.disk files.old) (F.disk files.new) }
+    ensures settles { SettlesTo (looks conn.old.held) (served site.now) conn.old.held conn.new.held result F.tells (F.disk files.old) (F.disk files.new) }
     ensures link { conn.new.held.link ≡ conn.old.held.link }
     ensures waits { WaitsOn result conn.new.held }
     ensures filled { store.new.filled ≤ store.old.filled + SETTLE_FILL }
@@ -75,7 +76,7 @@ fn read_body<F: Files>(
     requires heading { stage_of conn.old.held ≡ next.Head }
     requires free { IsFree conn.old.held }
     requires fits { F.tells → Fits (F.disk files.old).table conn.old.held }
-    ensures settles { SettlesTo true site.now.root conn.old.held conn.new.held result F.tells (F.disk files.old) (F.disk files.new) }
+    ensures settles { SettlesTo true (served site.now) conn.old.held conn.new.held result F.tells (F.disk files.old) (F.disk files.new) }
     ensures link { conn.new.held.link ≡ conn.old.held.link }
     ensures waits { WaitsOn result conn.new.held }
     ensures filled { store.new.filled ≤ store.old.filled + INPUT_LIMIT + 25 + REPLY_FILL }
@@ -83,7 +84,8 @@ fn read_body<F: Files>(
     ensures faults { F.faults files.old ≤ F.faults files.new }
     ensures later { F.later files.old files.new }
 {
-    let Ok(()) = conn.accept_body(store, BODY_LIMIT) else {
+    let settings = settings_for(site, conn);
+    let Ok(()) = conn.accept_body(store, settings.body_limit) else {
         return Some(Ending::NoMemory);
     };
     let Ok(stage) = conn.advance(store) else {
@@ -106,7 +108,7 @@ fn go_on<F: Files>(
     requires read { stage ≢ next.Head }
     requires fits { F.tells → Fits (F.disk files.old).table conn.old.held }
     // Memory may be wanted only for an answer.
-    ensures settles { SettlesTo (is_asking conn.old.held.stage) site.now.root conn.old.held conn.new.held result F.tells (F.disk files.old) (F.disk files.new) }
+    ensures settles { SettlesTo (is_asking conn.old.held.stage) (served site.now) conn.old.held conn.new.held result F.tells (F.disk files.old) (F.disk files.new) }
     ensures link { conn.new.held.link ≡ conn.old.held.link }
     ensures waits { WaitsOn result conn.new.held }
     ensures filled { store.new.filled ≤ store.old.filled + REPLY_FILL }
@@ -122,7 +124,8 @@ fn go_on<F: Files>(
         Stage::Finished => Some(Ending::Clean),
         Stage::Refused(status) => {
             let form = Form::of_refused(conn.request());
-            refuse(conn, site, store, form, status)
+            let settings = settings_for(site, conn);
+            refuse(conn, site, store, settings.tag, form, status)
         }
         Stage::Whole => respond(conn, site, store, files),
     }
@@ -139,7 +142,7 @@ fn respond<F: Files>(
     requires whole { stage_of conn.old.held ≡ next.Whole }
     requires file { conn.old.held.file ≡ None }
     requires fits { F.tells → Fits (F.disk files.old).table conn.old.held }
-    ensures settles { SettlesTo true site.now.root conn.old.held conn.new.held result F.tells (F.disk files.old) (F.disk files.new) }
+    ensures settles { SettlesTo true (served site.now) conn.old.held conn.new.held result F.tells (F.disk files.old) (F.disk files.new) }
     ensures link { conn.new.held.link ≡ conn.old.held.link }
     ensures waits { WaitsOn result conn.new.held }
     ensures filled { store.new.filled ≤ store.old.filled + REPLY_FILL }
@@ -151,9 +154,10 @@ fn respond<F: Files>(
     let Some(request) = conn.request() else {
         return None;
     };
-    let form = Form::of(request, owner.request);
-    let planned = plan(site.alloc, site.root.bytes(), request, files, owner);
-    serve(conn, site, store, files, form, planned)
+    let settings = settings_for(site, conn);
+    let form = Form::of(request, owner.request, settings.request_limit);
+    let planned = plan(site, request, files, owner);
+    serve(conn, site, store, files, settings.tag, form, planned)
 }
 
 // Answers as is planned.
@@ -162,6 +166,7 @@ fn serve<F: Files>(
     site: &Site,
     store: &mut Store,
     files: &mut F,
+    tag: &[u8],
     form: Form,
     planned: Planned,
 ) -> Option<Ending>
@@ -170,10 +175,10 @@ fn serve<F: Files>(
     requires file { conn.old.held.file ≡ None }
     requires number { form.last ≡ false → number_of conn.old.held.stage < 2 ^ 32 - 1 }
     requires within { PlansWithin planned }
-    ensures settles { (before : Disk) (head : Head) (content : List ℕ) → conn.old.held.stage ≡ Asking (number_of conn.old.held.stage) (Complete head content) → form ≡ form_of (number_of conn.old.held.stage) head →
+    ensures settles { (before : Disk) (head : Head) (content : List ℕ) → conn.old.held.stage ≡ Asking (number_of conn.old.held.stage) (Complete head content) → form ≡ form_of (settings_at (served site.now) (Some (arrival_of conn.old.held)) (Some head)).request_limit (number_of conn.old.held.stage) head → tag.now ≡ (settings_at (served site.now) (Some (arrival_of conn.old.held)) (Some head)).tag →
         (F.tells → Fits before.table conn.old.held) →
-        (F.tells → Plans planned site.now.root conn.old.held.link (number_of conn.old.held.stage) head before (F.disk files.old)) →
-        SettlesTo true site.now.root conn.old.held conn.new.held result F.tells before (F.disk files.new) }
+        (F.tells → Plans planned (served site.now) (Some (arrival_of conn.old.held)) conn.old.held.link (number_of conn.old.held.stage) head before (F.disk files.old)) →
+        SettlesTo true (served site.now) conn.old.held conn.new.held result F.tells before (F.disk files.new) }
     ensures link { conn.new.held.link ≡ conn.old.held.link }
     ensures waits { WaitsOn result conn.new.held }
     ensures filled { store.new.filled ≤ store.old.filled + REPLY_FILL }
@@ -182,8 +187,8 @@ fn serve<F: Files>(
     ensures later { F.later files.old files.new }
 {
     match planned {
-        Planned::Error(status) => refuse(conn, site, store, form, status),
-        Planned::File { file, size } => send_file(conn, site, store, files, form, file, size),
+        Planned::Error(status) => refuse(conn, site, store, tag, form, status),
+        Planned::File { file, size } => send_file(conn, site, store, files, tag, form, file, size),
         Planned::NoMemory => Some(Ending::NoMemory),
     }
 }
@@ -193,6 +198,7 @@ fn refuse(
     conn: &mut Conn,
     site: &Site,
     store: &mut Store,
+    tag: &[u8],
     form: Form,
     status: u16,
 ) -> Option<Ending>
@@ -200,13 +206,13 @@ fn refuse(
     requires asking { is_asking conn.old.held.stage ≡ true }
     requires file { conn.old.held.file ≡ None }
     requires number { form.last ≡ false → number_of conn.old.held.stage < 2 ^ 32 - 1 }
-    ensures given { GivenBy result conn.old.held conn.new.held (map Byte (error_bytes form.minor status form.last form.head_only)) None form.last }
+    ensures given { GivenBy result conn.old.held conn.new.held (map Byte (error_bytes tag.now form.minor status (error_fields status) form.last form.head_only)) None form.last }
     ensures link { conn.new.held.link ≡ conn.old.held.link }
     ensures waits { WaitsOn result conn.new.held }
     ensures filled { store.new.filled ≤ store.old.filled + REPLY_FILL }
     ensures kept { Kept store.old conn.old.numbers store.new conn.new.numbers }
 {
-    let Ok(text) = site.replies.error(site.alloc, form, status) else {
+    let Ok(text) = site.replies.error(site.alloc, tag, form, status) else {
         return Some(Ending::NoMemory);
     };
     give(conn, store, text.bytes(), Chunks::new(), None, form.last)
@@ -218,6 +224,7 @@ fn send_file<F: Files>(
     site: &Site,
     store: &mut Store,
     files: &mut F,
+    tag: &[u8],
     form: Form,
     file: FileId,
     size: u64,
@@ -227,10 +234,10 @@ fn send_file<F: Files>(
     requires file { conn.old.held.file ≡ None }
     requires number { form.last ≡ false → number_of conn.old.held.stage < 2 ^ 32 - 1 }
     requires size { size < 2 ^ 62 }
-    ensures settles { (before : Disk) (head : Head) (content : List ℕ) → conn.old.held.stage ≡ Asking (number_of conn.old.held.stage) (Complete head content) → form ≡ form_of (number_of conn.old.held.stage) head →
+    ensures settles { (before : Disk) (head : Head) (content : List ℕ) → conn.old.held.stage ≡ Asking (number_of conn.old.held.stage) (Complete head content) → form ≡ form_of (settings_at (served site.now) (Some (arrival_of conn.old.held)) (Some head)).request_limit (number_of conn.old.held.stage) head → tag.now ≡ (settings_at (served site.now) (Some (arrival_of conn.old.held)) (Some head)).tag →
         (F.tells → Fits before.table conn.old.held) →
-        (F.tells → PlansFile file.0 size site.now.root conn.old.held.link (number_of conn.old.held.stage) head before (F.disk files.old)) →
-        SettlesTo true site.now.root conn.old.held conn.new.held result F.tells before (F.disk files.new) }
+        (F.tells → PlansFile file.0 size (served site.now) (Some (arrival_of conn.old.held)) conn.old.held.link (number_of conn.old.held.stage) head before (F.disk files.old)) →
+        SettlesTo true (served site.now) conn.old.held conn.new.held result F.tells before (F.disk files.new) }
     ensures link { conn.new.held.link ≡ conn.old.held.link }
     ensures waits { WaitsOn result conn.new.held }
     ensures filled { store.new.filled ≤ store.old.filled + REPLY_FILL }
@@ -238,7 +245,7 @@ fn send_file<F: Files>(
     ensures faults { F.faults files.old ≤ F.faults files.new }
     ensures later { F.later files.old files.new }
 {
-    let Ok(head) = site.replies.file_head(site.alloc, form, size) else {
+    let Ok(head) = site.replies.file_head(site.alloc, tag, form, size) else {
         files.release(file);
         return Some(Ending::NoMemory);
     };

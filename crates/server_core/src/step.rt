@@ -7,6 +7,7 @@ ghost use Rattle.server_model.specs.Serves.{Stands};
 ghost use Rattle.server_model.specs.Due.{DueRead, DueWrite};
 ghost use Rattle.server_model.specs.Turns.{Seen, GoesBy};
 ghost use Rattle.server_model.specs.Steps.{room_of, wants_read, wrote};
+ghost use Rattle.server_core.specs.Served.{served};
 ghost use Rattle.server_core.specs.Steps.{IsResting, WaitsOn, FailsFor, done_file, seen_as};
 
 use crate::settle::{SETTLE_FILL, settle};
@@ -77,7 +78,7 @@ pub(crate) fn read_for<N: Net, F: Files>(
     requires counted { HeldWithin store.old (length conn.old.numbers) }
     requires resting { IsResting conn.old.held }
     requires fits { F.tells → Fits (F.disk files.old).table conn.old.held }
-    ensures goes { GoesBy Stands DueRead site.now.root conn.old.held conn.new.held result N.tells F.tells
+    ensures goes { GoesBy Stands DueRead (served site.now) conn.old.held conn.new.held result N.tells F.tells
         (F.disk files.old) (F.disk files.new) (N.trace net.old) (N.trace net.new) }
     ensures link { conn.new.held.link ≡ conn.old.held.link }
     ensures waits { WaitsOn result conn.new.held }
@@ -127,7 +128,7 @@ fn receive<N: Net, F: Files>(
     requires some { 0 < length buf.old }
     requires within { length buf.old ≤ room_of conn.old.held }
     requires most { length buf.old ≤ BUFFER_SIZE }
-    ensures goes { GoesBy Stands DueRead site.now.root conn.old.held conn.new.held result N.tells F.tells
+    ensures goes { GoesBy Stands DueRead (served site.now) conn.old.held conn.new.held result N.tells F.tells
         (F.disk files.old) (F.disk files.new) (N.trace net.old) (N.trace net.new) }
     ensures link { conn.new.held.link ≡ conn.old.held.link }
     ensures waits { WaitsOn result conn.new.held }
@@ -176,7 +177,7 @@ pub(crate) fn write_for<N: Net, F: Files>(
     // What is seen later tells of a failed read too.
     ensures goes { (later : Seen) → F.faults files.new ≤ later.faults → (F.tells → later.failed_read ≡ F.failed_read files.new) →
         GoesBy Stands (DueWrite (FailsFor conn.old.held.link (seen_as (F.disk files.old) (F.faults files.old) (F.failed_read files.old)) later))
-        site.now.root conn.old.held conn.new.held result N.tells F.tells (F.disk files.old) (F.disk files.new) (N.trace net.old) (N.trace net.new) }
+        (served site.now) conn.old.held conn.new.held result N.tells F.tells (F.disk files.old) (F.disk files.new) (N.trace net.old) (N.trace net.new) }
     ensures link { conn.new.held.link ≡ conn.old.held.link }
     ensures waits { WaitsOn result conn.new.held }
     ensures filled { store.new.filled ≤ store.old.filled + TURN_FILL }

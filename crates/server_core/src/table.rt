@@ -4,6 +4,7 @@ ghost use Rattle.lt_world.specs.Trace.{Accepted, Readable, Writable};
 ghost use Rattle.server_model.specs.Held.{IsPlace};
 ghost use Rattle.server_model.specs.Files.{IsTable, Backs};
 ghost use Rattle.server_model.specs.Turns.{TurnsOn};
+ghost use Rattle.server_core.specs.Served.{served};
 ghost use Rattle.server_core.specs.Steps.{seen_as};
 ghost use Rattle.server_core.specs.Table.{helds, serving, Rising, IsKept};
 
@@ -61,7 +62,7 @@ pub(crate) fn accept_on<N: Net, F: Files>(
     requires kept { IsKept store.old clients.old.items }
     requires table { IsTable arrival.link.0 (helds clients.old.items) }
     requires backs { F.tells → Backs (F.disk files.now).table (helds clients.old.items) }
-    ensures turn { TurnsOn (Accepted arrival.peer arrival.local) arrival.link.0 (serving site.now.root clients.old.items) (serving site.now.root clients.new.items) N.tells F.tells
+    ensures turn { TurnsOn (Accepted arrival.peer arrival.local) arrival.link.0 (serving (served site.now) clients.old.items) (serving (served site.now) clients.new.items) N.tells F.tells
         (seen_as (F.disk files.now) (F.faults files.now) (F.failed_read files.now)) (seen_as (F.disk files.now) (F.faults files.now) (F.failed_read files.now))
         (N.trace net.old) (N.trace net.new) }
     ensures filled { store.new.filled ≡ store.old.filled }
@@ -107,7 +108,7 @@ pub(crate) fn read_on<N: Net, F: Files>(
     requires known { link.0 < N.links net.old }
     requires kept { IsKept store.old clients.old.items }
     requires backs { F.tells → Backs (F.disk files.old).table (helds clients.old.items) }
-    ensures turn { TurnsOn Readable link.0 (serving site.now.root clients.old.items) (serving site.now.root clients.new.items) N.tells F.tells
+    ensures turn { TurnsOn Readable link.0 (serving (served site.now) clients.old.items) (serving (served site.now) clients.new.items) N.tells F.tells
         (seen_as (F.disk files.old) (F.faults files.old) (F.failed_read files.old)) (seen_as (F.disk files.new) (F.faults files.new) (F.failed_read files.new))
         (N.trace net.old) (N.trace net.new) }
     ensures filled { store.new.filled ≤ store.old.filled + TURN_FILL }
@@ -146,7 +147,7 @@ pub(crate) fn write_on<N: Net, F: Files>(
     requires known { link.0 < N.links net.old }
     requires kept { IsKept store.old clients.old.items }
     requires backs { F.tells → Backs (F.disk files.old).table (helds clients.old.items) }
-    ensures turn { TurnsOn Writable link.0 (serving site.now.root clients.old.items) (serving site.now.root clients.new.items) N.tells F.tells
+    ensures turn { TurnsOn Writable link.0 (serving (served site.now) clients.old.items) (serving (served site.now) clients.new.items) N.tells F.tells
         (seen_as (F.disk files.old) (F.faults files.old) (F.failed_read files.old)) (seen_as (F.disk files.new) (F.faults files.new) (F.failed_read files.new))
         (N.trace net.old) (N.trace net.new) }
     ensures filled { store.new.filled ≤ store.old.filled + TURN_FILL }

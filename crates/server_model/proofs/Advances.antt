@@ -13,8 +13,9 @@ use Rattle.lt_http_body.specs.declared.body.BodyRefusal.{BodyRefusal}
 use Rattle.lt_http_body.specs.Standings.{answer_from}
 use Rattle.lt_http_body.specs.Reading.{standing_after, data_in, taken_in}
 use Rattle.lt_http_body.proofs.ReadingLemmas.{after_append, data_append, taken_append}
-use Rattle.server_model.specs.Request.{Head, Request, Refused, Declined, Complete, Front, NoHead, BadHead, HasHead, front_of, body_limit, body_status, bodied, begin_of, request_of, is_complete}
-use Rattle.server_model.specs.Plan.{World, call_count}
+use Rattle.server_model.specs.Settings.{limit_for}
+use Rattle.server_model.specs.Request.{Head, Request, Refused, Declined, Complete, Front, NoHead, BadHead, HasHead, front_of, body_status, bodied, begin_of, request_of, is_complete, Limits}
+use Rattle.server_model.specs.World.{World, call_count}
 use Rattle.server_model.specs.Reply.{Whole, Reply, continue_of, reply}
 use Rattle.server_model.specs.Stream.{Passed, reply_at, left_after, replies_to}
 use Rattle.server_model.specs.Client.{input_of, output_of, IsPlanned, AskedInTurn}
@@ -67,7 +68,7 @@ module _ (opened : Table) (world : World) (held : Held) (acts : List Act) where
   matches_looked_at k NoHead is from at m = restaged (Awaiting k) held.input (sym from) (record { passed = at.passed; input = at.input; owed = at.owed; staged = at.staged; file = at.file }) m
   matches_looked_at k (BadHead status) is from at m = restaged (Asking k (Refused status)) held.input (sym from) (record {
     begun = begun_new opened world (record held { stage = Asking k (Refused status); input = held.input }) acts k [] at.passed (ap (bytes_of opened) at.owed) at.staged;
-    request = bad_refused (left_after k (input_of acts)) status (ap front_of (sym at.input) ∙ is);
+    request = bad_refused (limit_for world) (left_after (limit_for world) k (input_of acts)) status (ap front_of (sym at.input) ∙ is);
     input = λ complete. absurd (cc (complete));
     file = at.file;
   }) m
@@ -86,37 +87,37 @@ module _ (opened : Table) (world : World) (held : Held) (acts : List Act) where
         let all : taken_in s held.input ≡ length held.input = open_all s held.input is in
         let none : drop (taken_in s held.input) held.input ≡ [] = drop_all (taken_in s held.input) held.input all in
         record {
-          begun = begun_kept opened world held (later (Ok body.NeedMore)) acts refl refl k (continue_of head) at.begun;
+          begun = begun_kept opened world held (later (Ok body.NeedMore)) acts refl refl k (continue_of (limit_for world) head) at.begun;
           read = at.read ++ held.input;
           front = at.front ∙ ap (HasHead head) (sym (append-nil (at.read ++ held.input))) ∙ ap (λ l. HasHead head ((at.read ++ held.input) ++ l)) (sym none);
-          stands = ap (λ (t : Standing). standing_after t held.input) at.stands ∙ sym (after_append (begin_of head) at.read held.input);
-          content_is = (λ i. at.content_is i ++ data_in (at.stands i) held.input) ∙ sym (data_append (begin_of head) at.read held.input);
-          own = omega (arith, taken_append (begin_of head) at.read held.input, at.own, ap (λ (t : Standing). taken_in t held.input) at.stands, all, length-append at.read held.input);
+          stands = ap (λ (t : Standing). standing_after t held.input) at.stands ∙ sym (after_append (begin_of (limit_for world) head) at.read held.input);
+          content_is = (λ i. at.content_is i ++ data_in (at.stands i) held.input) ∙ sym (data_append (begin_of (limit_for world) head) at.read held.input);
+          own = omega (arith, taken_append (begin_of (limit_for world) head) at.read held.input, at.own, ap (λ (t : Standing). taken_in t held.input) at.stands, all, length-append at.read held.input);
           file = at.file;
         }
 
-    request_now : (a : BodyAnswer) → answer_from (standing_after s held.input).state ≡ a → request_of (left_after k (input_of acts)) ≡ bodied head a (content ++ data_in s held.input)
+    request_now : (a : BodyAnswer) → answer_from (standing_after s held.input).state ≡ a → request_of (limit_for world) (left_after (limit_for world) k (input_of acts)) ≡ bodied head a (content ++ data_in s held.input)
     request_now a is =
-        front_headed (left_after k (input_of acts)) head (at.read ++ held.input) at.front ∙ headed_read head at.read held.input
+        front_headed (limit_for world) (left_after (limit_for world) k (input_of acts)) head (at.read ++ held.input) at.front ∙ headed_read (limit_for world) head at.read held.input
         ∙ (λ i. bodied head (answer_from (standing_after (sym at.stands i) held.input).state) (sym at.content_is i ++ data_in (sym at.stands i) held.input))
         ∙ ap (λ (b : BodyAnswer). bodied head b (content ++ data_in s held.input)) is
 
-    input_now : answer_from (standing_after s held.input).state ≡ Ok body.Done → drop (taken_in s held.input) held.input ≡ left_after (k + 1) (input_of acts)
+    input_now : answer_from (standing_after s held.input).state ≡ Ok body.Done → drop (taken_in s held.input) held.input ≡ left_after (limit_for world) (k + 1) (input_of acts)
     input_now is =
-        ap (λ (t : Standing). drop (taken_in t held.input) held.input) at.stands ∙ sym (drop_read head at.read held.input at.own)
-        ∙ sym (front_rest (left_after k (input_of acts)) head (at.read ++ held.input) at.front (ap is_complete (request_now (Ok body.Done) is)))
-        ∙ sym (left_next k (input_of acts))
+        ap (λ (t : Standing). drop (taken_in t held.input) held.input) at.stands ∙ sym (drop_read (limit_for world) head at.read held.input at.own)
+        ∙ sym (front_rest (limit_for world) (left_after (limit_for world) k (input_of acts)) head (at.read ++ held.input) at.front (ap is_complete (request_now (Ok body.Done) is)))
+        ∙ sym (left_next (limit_for world) k (input_of acts))
 
     matches_fed : first_unasked held.stage ≡ k → (a : BodyAnswer) → answer_from (standing_after s held.input).state ≡ a → Matches opened world held acts → Matches opened world (later a) acts
     matches_fed from (Ok body.NeedMore) is m = restaged (Taking k head (standing_after s held.input) (content ++ data_in s held.input)) (drop (taken_in s held.input) held.input) (sym from) (goes_on is) m
     matches_fed from (Ok body.Done) is m = restaged (Asking k (Complete head (content ++ data_in s held.input))) (drop (taken_in s held.input) held.input) (sym from) (record {
-      begun = begun_kept opened world held (later (Ok body.Done)) acts refl refl k (continue_of head) at.begun;
+      begun = begun_kept opened world held (later (Ok body.Done)) acts refl refl k (continue_of (limit_for world) head) at.begun;
       request = request_now (Ok body.Done) is;
       input = λ complete. input_now is;
       file = at.file;
     }) m
     matches_fed from (Err refused) is m = restaged (Asking k (Declined (body_status refused) head)) (drop (taken_in s held.input) held.input) (sym from) (record {
-      begun = begun_kept opened world held (later (Err refused)) acts refl refl k (continue_of head) at.begun;
+      begun = begun_kept opened world held (later (Err refused)) acts refl refl k (continue_of (limit_for world) head) at.begun;
       request = request_now (Err refused) is;
       input = λ complete. absurd (cc (complete));
       file = at.file;
@@ -138,18 +139,18 @@ module _ (opened : Table) (world : World) (held : Held) (acts : List Act) where
   matches_advanced freed m = advanced_by held.stage refl freed m
 
   -- a body is accepted up to the limit, and the client is told so where it waits for that
-  accepts : (k : ℕ) (head : Head) → held.stage ≡ Heading k head → Matches opened world held acts → Matches opened world (accepted_at (Heading k head) body_limit held) acts
+  accepts : (k : ℕ) (head : Head) → held.stage ≡ Heading k head → Matches opened world held acts → Matches opened world (accepted_at (Heading k head) (limit_for world head) held) acts
   unfolding standing_after data_in taken_in
   accepts k head is m =
       let at : IsHeading world held acts k head = subst (IsAt opened world held acts) is m.at in
-      let mid : Held = accepted_at (Heading k head) body_limit held in
+      let mid : Held = accepted_at (Heading k head) (limit_for world head) held in
       record {
         is_open = m.is_open;
         sound = m.sound;
         came = m.came;
         ended = m.ended;
         at = record {
-          begun = begun_new opened world mid acts k (continue_of head) at.passed (ap (λ (l : List Item). bytes_of opened (l ++ map Byte (continue_of head))) at.owed ∙ memory_bytes opened (continue_of head)) at.staged;
+          begun = begun_new opened world mid acts k (continue_of (limit_for world) head) at.passed (ap (λ (l : List Item). bytes_of opened (l ++ map Byte (continue_of (limit_for world) head))) at.owed ∙ memory_bytes opened (continue_of (limit_for world) head)) at.staged;
           read = [];
           front = at.front;
           stands = refl;
@@ -161,25 +162,25 @@ module _ (opened : Table) (world : World) (held : Held) (acts : List Act) where
         unasked = λ j what past. m.unasked j what (omega (arith, past, ap first_unasked is));
       }
 
-  pub matches_accepted : (limit : ℕ) → limit ≡ body_limit → Matches opened world held acts → Matches opened world (accepted held limit) acts
+  pub matches_accepted : (limit : ℕ) → ((k : ℕ) (head : Head) → held.stage ≡ Heading k head → limit ≡ limit_for world head) → Matches opened world held acts → Matches opened world (accepted held limit) acts
   matches_accepted limit same m = by held.stage refl
     where
       by : (s : Stage) → held.stage ≡ s → Matches opened world (accepted_at s limit held) acts
       by (Awaiting k) is = m
-      by (Heading k head) is = subst (λ (l : ℕ). Matches opened world (accepted_at (Heading k head) l held) acts) (sym same) (accepts k head is m)
+      by (Heading k head) is = subst (λ (l : ℕ). Matches opened world (accepted_at (Heading k head) l held) acts) (sym (same k head is)) (accepts k head is m)
       by (Taking k head s content) is = m
       by (Asking k r) is = m
       by (Answering k last) is = m
 
 -- a request that is there, in a world in which calls were made for it alone
-module _ (opened now : Table) (world other : World) (held : Held) (acts : List Act) (k : ℕ) (r : Request) (asking : held.stage ≡ Asking k r)
+module _ (opened now : Table) (world other : World) (held : Held) (acts : List Act) (k : ℕ) (r : Request) (asking : held.stage ≡ Asking k r) (limits : limit_for other ≡ limit_for world)
     (others : (j : ℕ) (what : FileCall) → (k ≡ j → ⊥) → call_count other j what ≡ call_count world j what) (same : (j : ℕ) (q : Request) → (k ≡ j → ⊥) → reply other j q ≡ reply world j q) where
   asks_here : Matches opened world held acts → IsAsking opened world held acts k r
   asks_here m = subst (IsAt opened world held acts) asking m.at
 
   -- those below are passed in this world too
   passed_other : (n : ℕ) (before : List ℕ) → n ≤ k → Passed n (replies_to world (input_of acts)) before → Passed n (replies_to other (input_of acts)) before
-  passed_other n before le passed = passed_world world (input_of acts) n before passed other (λ j q below. same j q (λ e. omega (arith, e, below, le)))
+  passed_other n before le passed = passed_world world (input_of acts) n before passed other limits (λ j q below. same j q (λ e. omega (arith, e, below, le)))
 
   unasked_above : Matches opened world held acts → (j : ℕ) (what : FileCall) → k < j → call_count other j what ≡ 0
   unasked_above m j what past = others j what (λ e. omega (arith, e, past)) ∙ m.unasked j what (omega (arith, past, ap first_unasked asking))
@@ -187,9 +188,9 @@ module _ (opened now : Table) (world other : World) (held : Held) (acts : List A
   -- it is there in this world too
   pub asks_other : Matches opened world held acts → IsAsking opened other held acts k r
   asks_other m = let at = asks_here m in record {
-    begun = record { before = at.begun.before; taken = at.begun.taken; passed = passed_other k at.begun.before (omega arith) at.begun.passed; output = at.begun.output; owed = at.begun.owed; shows = at.begun.shows };
-    request = at.request;
-    input = at.input;
+    begun = record { before = at.begun.before; taken = at.begun.taken; passed = passed_other k at.begun.before (omega arith) at.begun.passed; output = at.begun.output; owed = at.begun.owed ∙ ap (λ (l : Limits). told_first l r) (sym limits); shows = at.begun.shows };
+    request = ap (λ (l : Limits). request_of l (left_after l k (input_of acts))) limits ∙ at.request;
+    input = λ complete. at.input complete ∙ ap (λ (l : Limits). left_after l (k + 1) (input_of acts)) (sym limits);
     file = at.file;
   }
 
@@ -197,10 +198,10 @@ module _ (opened now : Table) (world other : World) (held : Held) (acts : List A
   pub matches_planned : is_complete r ≡ true → Matches opened world held acts → AskedInTurn other acts
   matches_planned complete m j what some = elim (cases_eq k j) [
     | inl is ↦
-        let at = asks_here m in
+        let at = asks_other m in
         let now : IsPlanned other acts k = record {
           before = at.begun.before;
-          passed = passed_other k at.begun.before (omega arith) at.begun.passed;
+          passed = at.begun.passed;
           taken = (at.begun.taken, sym at.begun.output);
           whole = ap is_complete at.request ∙ complete;
         } in
@@ -209,7 +210,7 @@ module _ (opened now : Table) (world other : World) (held : Held) (acts : List A
         let counted : call_count other j what ≡ call_count world j what = others j what apart in
         let p = m.in_turn j what (omega (arith, some, counted)) in
         let below : j < k = elim (cases_lt j k) [ inl less ↦ less | inr past ↦ absurd (omega (arith, some, counted, m.unasked j what (omega (arith, past, ap first_unasked asking)))) ] in
-        record { before = p.before; passed = passed_other j p.before (omega (arith, below)) p.passed; taken = p.taken; whole = p.whole }
+        record { before = p.before; passed = passed_other j p.before (omega (arith, below)) p.passed; taken = p.taken; whole = ap (λ (l : Limits). is_complete (request_of l (left_after l j (input_of acts)))) limits ∙ p.whole }
   ]
 
   -- further items come behind those that are owed
@@ -221,11 +222,11 @@ module _ (opened now : Table) (world other : World) (held : Held) (acts : List A
 
   -- its reply is given, behind what is owed of what was told before it
   pub matches_answered : (items : List Item) (file : Option ℕ) (last : Bool) → AskedInTurn other acts → (reply other k r).extent ≡ Whole → (reply other k r).last ≡ last → bytes_of now held.owed ≡ bytes_of opened held.owed
-      → told_first r ++ bytes_of now items ≡ (reply other k r).bytes → Matches opened world held acts → Matches now other (answered held items file last) acts
+      → told_first (limit_for other) r ++ bytes_of now items ≡ (reply other k r).bytes → Matches opened world held acts → Matches now other (answered held items file last) acts
   matches_answered items file last turn whole last_is kept is m =
-      let at = asks_here m in
+      let at = asks_other m in
       let b = at.begun in
-      let passed = passed_other k b.before (omega arith) b.passed in
+      let passed = b.passed in
       let here : reply_at k (replies_to other (input_of acts)) ≡ reply other k r = passed_reply other (input_of acts) k b.before passed ∙ ap (reply other k) at.request in
       let answers : IsAnswering now other (answered held items file last) acts k last = record {
         before = b.before;

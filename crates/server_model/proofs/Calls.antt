@@ -7,7 +7,8 @@ use Rattle.lt_world.specs.declared.files.FileCall.TheVariants as call
 use Rattle.lt_world.specs.declared.net.Owner.{Owner}
 use Rattle.lt_world.specs.Disk.{Disk, asked, is_kind, is_owner, count, own_calls, Logged, log_of, is_logged}
 use Rattle.lt_world.proofs.Disks.{quiet}
-use Rattle.server_model.specs.Plan.{World, world_of, owner_at, call_count, has_failed_call, with_call}
+use Rattle.server_model.specs.Site.{Site}
+use Rattle.server_model.specs.World.{Side, World, world_at, owner_at, call_count, has_failed_call, with_call}
 
 pub own_same : (client : ℕ) (c : Call) (calls : List Call) → c.owner.conn ≡ client → own_calls client (c ∷ calls) ≡ c ∷ own_calls client calls
 own_same client c calls is = grind (arith, nat_tests, is)
@@ -44,15 +45,15 @@ newest what owner true calls kind none =
 newest what owner false calls kind none = quiet what owner 0 calls none
 
 -- a call that the files tell is one of the client's world
-pub asked_is : (root : List ℕ) (disk : Disk) (client k : ℕ) (what : FileCall) (owner : Owner) (failed : Bool) → owner.conn ≡ client → owner.request ≡ k
-    → world_of root (asked what owner failed disk) client ≡ with_call what k failed (world_of root disk client)
-asked_is root disk client k what owner failed conn request =
-    ap (λ (calls : List Call). record { client = client; root = root; tree = disk.tree; calls = calls }) (own_same client (record { kind = what; owner = owner; failed = failed }) disk.calls conn)
-    ∙ (λ i. record { client = client; root = root; tree = disk.tree; calls = record { kind = what; owner = record { conn = conn i; request = request i }; failed = failed } ∷ own_calls client disk.calls })
+pub asked_is : (site : Site) (disk : Disk) (client k : ℕ) (side : Side) (what : FileCall) (owner : Owner) (failed : Bool) → owner.conn ≡ client → owner.request ≡ k
+    → world_at site (asked what owner failed disk) client side ≡ with_call what k failed (world_at site disk client side)
+asked_is site disk client k side what owner failed conn request =
+    ap (λ (calls : List Call). record { client = client; site = site; side = side; tree = disk.tree; calls = calls }) (own_same client (record { kind = what; owner = owner; failed = failed }) disk.calls conn)
+    ∙ (λ i. record { client = client; site = site; side = side; tree = disk.tree; calls = record { kind = what; owner = record { conn = conn i; request = request i }; failed = failed } ∷ own_calls client disk.calls })
 
-pub asked_other : (root : List ℕ) (disk : Disk) (client : ℕ) (what : FileCall) (owner : Owner) (failed : Bool) → owner.conn ≢ client → world_of root (asked what owner failed disk) client ≡ world_of root disk client
-asked_other root disk client what owner failed apart =
-    ap (λ (calls : List Call). record { client = client; root = root; tree = disk.tree; calls = calls }) (own_other client (record { kind = what; owner = owner; failed = failed }) disk.calls apart)
+pub asked_other : (site : Site) (disk : Disk) (client : ℕ) (side : Side) (what : FileCall) (owner : Owner) (failed : Bool) → owner.conn ≢ client → world_at site (asked what owner failed disk) client side ≡ world_at site disk client side
+asked_other site disk client side what owner failed apart =
+    ap (λ (calls : List Call). record { client = client; site = site; side = side; tree = disk.tree; calls = calls }) (own_other client (record { kind = what; owner = owner; failed = failed }) disk.calls apart)
 
 module _ (world : World) (k : ℕ) where
   pub count_other : (made : FileCall) (failed : Bool) (j : ℕ) (what : FileCall) → k ≢ j → call_count (with_call made k failed world) j what ≡ call_count world j what
@@ -61,18 +62,18 @@ module _ (world : World) (k : ℕ) where
       ∙ ap (λ t. if t then call_count world j what + 1 else call_count world j what) (and_false (is_kind made what))
 
   -- after the find of a request for which nothing was asked
-  pub find_failed : (failed : Bool) → call_count world k call.Find ≡ 0 → has_failed_call (with_call call.Find k failed world) k call.Find ≡ failed
+  pub find_failed : (failed : Bool) → call_count world k call.Find ≡ 0 → has_failed_call (with_call call.Find k failed world) k call.Find 0 ≡ failed
   find_failed failed none = newest call.Find (owner_at world k) failed world.calls refl none
 
-  pub unopened : (failed : Bool) → call_count world k call.Open ≡ 0 → has_failed_call (with_call call.Find k failed world) k call.Open ≡ false
+  pub unopened : (failed : Bool) → call_count world k call.Open ≡ 0 → has_failed_call (with_call call.Find k failed world) k call.Open 0 ≡ false
   unopened failed none = unlogged call.Open (owner_at world k) 0 (record { kind = call.Find; owner = owner_at world k; failed = failed }) world.calls refl ∙ quiet call.Open (owner_at world k) 0 world.calls none
 
   pub still_unopened : (failed : Bool) → call_count (with_call call.Find k failed world) k call.Open ≡ call_count world k call.Open
   still_unopened failed = refl
 
   -- and after its open
-  pub open_failed : (failed opened : Bool) → call_count world k call.Open ≡ 0 → has_failed_call (with_call call.Open k opened (with_call call.Find k failed world)) k call.Open ≡ opened
+  pub open_failed : (failed opened : Bool) → call_count world k call.Open ≡ 0 → has_failed_call (with_call call.Open k opened (with_call call.Find k failed world)) k call.Open 0 ≡ opened
   open_failed failed opened none = newest call.Open (owner_at world k) opened (with_call call.Find k failed world).calls refl none
 
-  pub find_stays : (failed opened : Bool) → call_count world k call.Find ≡ 0 → has_failed_call (with_call call.Open k opened (with_call call.Find k failed world)) k call.Find ≡ failed
+  pub find_stays : (failed opened : Bool) → call_count world k call.Find ≡ 0 → has_failed_call (with_call call.Open k opened (with_call call.Find k failed world)) k call.Find 0 ≡ failed
   find_stays failed opened none = unlogged call.Find (owner_at world k) 0 (record { kind = call.Open; owner = owner_at world k; failed = opened }) (with_call call.Find k failed world).calls refl ∙ find_failed failed none

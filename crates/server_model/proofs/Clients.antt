@@ -8,16 +8,16 @@ use Rattle.lt_http_body.specs.declared.body.BodyState.TheVariants as body
 use Rattle.lt_http_body.specs.declared.body.BodyRefusal.{BodyRefusal}
 use Rattle.lt_http_body.specs.Standings.{is_over, answer_from}
 use Rattle.lt_http_body.specs.Reading.{standing_after, data_in, taken_in}
-use Rattle.server_model.specs.Request.{Head, Request, Unfinished, Front, NoHead, BadHead, HasHead, front_of, request_of}
+use Rattle.server_model.specs.Request.{Head, Request, Front, NoHead, BadHead, HasHead, front_of}
 use Rattle.chunkqueue.specs.Items.{Item}
 use Rattle.server_model.specs.Held.{Stage, Awaiting, Heading, Taking, Asking, Answering, Held}
 use Rattle.server_model.specs.Steps.{number_of, received, received_end, has_no_items, has_no_bytes, looked_at, looked, fed_at, fed, advanced_at, advanced, looks_at, looks, accepted_at, accepted, took, without_file, wrote}
 use Rattle.server_model.specs.Serves.{IsWaitingAt, IsWaiting}
-use Rattle.server_model.proofs.Requests.{nohead_unfinished, more_open, open_more, open_all}
+use Rattle.server_model.proofs.Requests.{more_open, open_more, open_all}
 
 -- it went as far as what came allows: a head or a request is there, or none is and the reply, where another can follow it, isn't wholly taken
 abbrev pub IsSettledAt : Stage → List ℕ → List Item → Type 0
-IsSettledAt (Awaiting k) input owed = request_of input ≡ Unfinished
+IsSettledAt (Awaiting k) input owed = front_of input ≡ NoHead
 IsSettledAt (Heading k head) input owed = Unit {0}
 IsSettledAt (Taking k head s content) input owed = (input ≡ []) × (is_over s.state ≡ false)
 IsSettledAt (Asking k r) input owed = Unit {0}
@@ -116,7 +116,7 @@ pub advanced_settled : (held : Held) → IsSettled (advanced held)
 advanced_settled held = by_stage IsSettled held.stage held (λ k. at k (front_of held.input) refl) (λ k head s content. takes k head s (content ++ data_in s held.input) (answer_from (standing_after s held.input).state) refl) (λ s. s)
   where
     at : (k : ℕ) (f : Front) → front_of held.input ≡ f → IsSettled (looked_at k f held)
-    at k NoHead is = nohead_unfinished held.input is
+    at k NoHead is = is
     at k (BadHead status) is = tt
     at k (HasHead head rest) is = tt
 

@@ -7,7 +7,8 @@ use Rattle.lt_world.specs.declared.net.Address.{Address}
 use Rattle.lt_world.specs.declared.net.Ending.{Ending}
 use Rattle.lt_world.specs.declared.net.Ending.TheVariants as ending
 use Rattle.lt_world.specs.Trace.{Act, Entry, Accepted, Readable, Writable, Read, ReadEnd, NotYet, Failed, Wrote, Connect, Close}
-use Rattle.server_model.specs.Plan.{World}
+use Rattle.server_model.specs.Site.{Site}
+use Rattle.server_model.specs.World.{World}
 use Rattle.server_model.specs.Deeds.{Deed, Ours, is_deed, own, ours, told}
 use Rattle.server_model.specs.Open.{open_clients}
 use Rattle.server_model.specs.Client.{ending_of, has_failed}
@@ -106,10 +107,10 @@ failed_in : (client link : ℕ) (event : Act) (parts : List Part) (old now : Lis
 failed_in client link event parts old now gains failed =
     ap (λ (t : List Entry). has_failed (ours (own client t))) gains ∙ failed-all_told client parts (record { link = link; act = event } ∷ old) (failed_more client (record { link = link; act = event }) old failed)
 
-in_part : (root : List ℕ) (event : Act) (link : ℕ) (parts : List Part) (before after : Seen) (old now : List Entry) → now ≡ all_told parts (record { link = link; act = event } ∷ old) → DueParts root event link parts before after old now
+in_part : (site : Site) (event : Act) (link : ℕ) (parts : List Part) (before after : Seen) (old now : List Entry) → now ≡ all_told parts (record { link = link; act = event } ∷ old) → DueParts site event link parts before after old now
     → (client : ℕ) (e : Ending) → EndsSo e (own client now) → EndsSo e (own client old) ⊎ HasCause e (own client now) (Rose before.faults after.faults)
-in_part root event link [] before after old now gains d client e is = absurd d
-in_part root event link (p ∷ []) before after old now gains d client e is = elim (cases_eq client p.client) [
+in_part site event link [] before after old now gains d client e is = absurd d
+in_part site event link (p ∷ []) before after old now gains d client e is = elim (cases_eq client p.client) [
   | inl here ↦ elim (due (open_clients old) event (λ k. ReadFailed p.client k before after) _ _ (own p.client old) (own p.client now) e d.2 (subst (λ (c : ℕ). EndsSo e (own c now)) here is)) [
     | inl was ↦ inl (subst (λ (c : ℕ). EndsSo e (own c old)) (sym here) was)
     | inr cause ↦ inr (cause_stays e (own p.client now) (own client now) ((k : ℕ) × ReadFailed p.client k before after) (Rose before.faults after.faults)
@@ -120,21 +121,21 @@ in_part root event link (p ∷ []) before after old now gains d client e is = el
       let same : own client now ≡ own client old = ap (own client) gains ∙ own-told_other client p.client p.deeds (record { link = link; act = event } ∷ old) apart ∙ event_apart in
       inl (subst (EndsSo e) same is)
 ]
-in_part root event link (p ∷ q ∷ parts) before after old now gains d client e is = absurd d
+in_part site event link (p ∷ q ∷ parts) before after old now gains d client e is = absurd d
 
 rose_wider : (a b c d : ℕ) → a ≤ b → c ≤ d → Rose b c → Rose a d
 rose_wider a b c d low high rose = grind (arith, low, high, rose)
 
-pub run_ends : (root : List ℕ) (before after : Told) → IsRun root before after → (client : ℕ) (e : Ending) → EndsSo e (own client after.trace)
+pub run_ends : (site : Site) (before after : Told) → IsRun site before after → (client : ℕ) (e : Ending) → EndsSo e (own client after.trace)
     → EndsSo e (own client before.trace) ⊎ HasCause e (own client after.trace) (Rose before.seen.faults after.seen.faults)
-run_ends root before after none client e is = inl is
-run_ends root before after (more {now = mid} run turn) client e is = elim (in_part root turn.event turn.link turn.parts mid.seen after.seen mid.trace after.trace turn.gains turn.due client e is) [
-  | inl was ↦ elim (run_ends root before mid run client e was) [
+run_ends site before after none client e is = inl is
+run_ends site before after (more {now = mid} run turn) client e is = elim (in_part site turn.event turn.link turn.parts mid.seen after.seen mid.trace after.trace turn.gains turn.due client e is) [
+  | inl was ↦ elim (run_ends site before mid run client e was) [
     | inl first ↦ inl first
     | inr cause ↦ inr (cause_stays e (own client mid.trace) (own client after.trace) (Rose before.seen.faults mid.seen.faults) (Rose before.seen.faults after.seen.faults)
         (failed_in client turn.link turn.event turn.parts mid.trace after.trace turn.gains)
         (rose_wider before.seen.faults before.seen.faults mid.seen.faults after.seen.faults (omega arith) turn.grows.faults) cause)
   ]
   | inr cause ↦ inr (cause_stays e (own client after.trace) (own client after.trace) (Rose mid.seen.faults after.seen.faults) (Rose before.seen.faults after.seen.faults) (λ failed. failed)
-      (rose_wider before.seen.faults mid.seen.faults after.seen.faults after.seen.faults (run_grows root before mid run).faults (omega arith)) cause)
+      (rose_wider before.seen.faults mid.seen.faults after.seen.faults after.seen.faults (run_grows site before mid run).faults (omega arith)) cause)
 ]

@@ -3,7 +3,8 @@ use Rattle.std.proofs.Common.{◌≡◌, ◌≢◌, ℕ, List, ◌++◌, Option,
 use Rattle.std.proofs.lemmas.Bool.{cases_eq}
 use Rattle.lt_world.specs.Disk.{Disk, Table}
 use Rattle.lt_world.specs.Trace.{Act, Entry}
-use Rattle.server_model.specs.Plan.{World, world_of}
+use Rattle.server_model.specs.Site.{Site}
+use Rattle.server_model.specs.World.{World, side_of, world_of}
 use Rattle.server_model.specs.Open.{open_clients}
 use Rattle.server_model.specs.Deeds.{Deed, own, ours, told, AreDeeds}
 use Rattle.chunkqueue.specs.Items.{bytes_of}
@@ -46,8 +47,8 @@ is_opened : (opened : Table) (kept : Option Held) (file : ℕ) → FitsFor opene
 is_opened opened None file fits is = absurd (cc (is))
 is_opened opened (Some held) file fits is = subst (IsOpened opened) is fits.is_open
 
-pub world_alone : (root : List ℕ) (client other : ℕ) (held now : Option ℕ) (before after : Disk) → FileStep client held now before after → other ≢ client → world_of root after other ≡ world_of root before other
-world_alone root client other held now before after step apart = (λ i. record { client = other; root = root; tree = step.tree i; calls = step.calls other apart i })
+pub world_alone : (site : Site) (client other : ℕ) (held now : Option ℕ) (before after : Disk) (deeds : List Deed) → FileStep client held now before after → other ≢ client → world_of site after other deeds ≡ world_of site before other deeds
+world_alone site client other held now before after deeds step apart = (λ i. record { client = other; site = site; side = side_of deeds; tree = step.tree i; calls = step.calls other apart i })
 
 module _ (client : ℕ) (before after : Disk) (table next : List Held) (backs : Backs before.table table)
     (step : FileStep client (file_of (kept_at client table)) (file_of (kept_at client next)) before after)
@@ -95,16 +96,16 @@ module _ (client : ℕ) (before after : Disk) (table next : List Held) (backs : 
   ]
 
   -- and the server serves again, where the client stands
-  pub frame : (root : List ℕ) (trace : List Entry) (deeds : List Deed) → AreDeeds deeds → open_clients (told client deeds trace) ≡ length next → Serves before (record { root = root; table = table }) trace
-      → StandsFor after.table (world_of root after client) (kept_at client next) (deeds ++ own client trace) → Serves after (record { root = root; table = next }) (told client deeds trace)
-  frame root trace deeds are count serves here = record {
+  pub frame : (site : Site) (trace : List Entry) (deeds : List Deed) → AreDeeds deeds → open_clients (told client deeds trace) ≡ length next → Serves before (record { site = site; table = table }) trace
+      → StandsFor after.table (world_of site after client (deeds ++ own client trace)) (kept_at client next) (deeds ++ own client trace) → Serves after (record { site = site; table = next }) (told client deeds trace)
+  frame site trace deeds are count serves here = record {
     each = λ o. elim (cases_eq o client) [
-      | inl is ↦ subst (λ (n : ℕ). StandsFor after.table (world_of root after n) (kept_at n next) (own n (told client deeds trace))) (sym is)
-          (subst (StandsFor after.table (world_of root after client) (kept_at client next)) (sym (own-told client deeds trace are)) here)
-      | inr apart ↦ subst (λ k. StandsFor after.table (world_of root after o) k (own o (told client deeds trace))) (sym (others o apart))
-          (subst (λ (w : World). StandsFor after.table w (kept_at o table) (own o (told client deeds trace))) (sym (world_alone root client o _ _ before after step apart))
-          (subst (StandsFor after.table (world_of root before o) (kept_at o table)) (sym (own-told_other o client deeds trace apart))
-          (stands_alone before.table after.table (world_of root before o) (kept_at o table) (own o trace) (left_alone o apart) (backs.each o) (serves.each o))))
+      | inl is ↦ subst (λ (n : ℕ). StandsFor after.table (world_of site after n (own n (told client deeds trace))) (kept_at n next) (own n (told client deeds trace))) (sym is)
+          (subst (λ (d : List Deed). StandsFor after.table (world_of site after client d) (kept_at client next) d) (sym (own-told client deeds trace are)) here)
+      | inr apart ↦ subst (λ k. StandsFor after.table (world_of site after o (own o (told client deeds trace))) k (own o (told client deeds trace))) (sym (others o apart))
+          (subst (λ (w : World). StandsFor after.table w (kept_at o table) (own o (told client deeds trace))) (sym (world_alone site client o _ _ before after (own o (told client deeds trace)) step apart))
+          (subst (λ (d : List Deed). StandsFor after.table (world_of site before o d) (kept_at o table) d) (sym (own-told_other o client deeds trace apart))
+          (stands_alone before.table after.table (world_of site before o (own o trace)) (kept_at o table) (own o trace) (left_alone o apart) (backs.each o) (serves.each o))))
     ];
     count = count;
     opened = opened_on serves.opened;

@@ -4,7 +4,8 @@ use Rattle.lt_world.specs.declared.net.Ending.{Ending}
 use Rattle.lt_world.specs.declared.net.Ending.TheVariants as ending
 use Rattle.lt_world.specs.Disk.{Disk, Table}
 use Rattle.lt_world.specs.Trace.{Act, Entry, Close}
-use Rattle.server_model.specs.Plan.{World, world_of}
+use Rattle.server_model.specs.Site.{Site}
+use Rattle.server_model.specs.World.{World, world_of}
 use Rattle.server_model.specs.Deeds.{Deed, Ours, ours, told, AreDeeds}
 use Rattle.server_model.specs.Open.{open_clients}
 use Rattle.server_model.specs.Client.{has_failed, IsFinished, IsRight}
@@ -19,9 +20,9 @@ use Rattle.server_model.proofs.Settled.{closes}
 use Rattle.server_model.proofs.Standing.{stands_rests}
 use Rattle.server_model.proofs.Stepping.{drops_world}
 
-module _ (From : Table → World → Held → List Act → Type 0) (due : World → World → List Deed → List Deed → Type 0) (root : List ℕ) (held new : Held) (e : Ending) (net files : Type 0) (before between after : Disk) (old then now : List Entry) where
+module _ (From : Table → World → Held → List Act → Type 0) (due : World → World → List Deed → List Deed → Type 0) (site : Site) (held new : Held) (e : Ending) (net files : Type 0) (before between after : Disk) (old then now : List Entry) where
   -- it is closed so, and its file given back
-  pub stop_closed : StopsBy From due root held new e net files before between old then → (net → now ≡ told new.link (Ours (Close e) ∷ []) then) → (files → Drops new.file between after) → StepsBy From due root held None net files before after old now
+  pub stop_closed : StopsBy From due site held new e net files before between old then → (net → now ≡ told new.link (Ours (Close e) ∷ []) then) → (files → Drops new.file between after) → StepsBy From due site held None net files before after old now
   stop_closed s gains dropped = record {
     deeds = Ours (Close e) ∷ s.deeds;
     are = (refl, s.are);
@@ -31,22 +32,22 @@ module _ (From : Table → World → Held → List Act → Type 0) (due : World 
     fits = λ f. tt;
     keeps = λ f past from.
         let k = s.keeps f past from in
-        let same : world_of root after held.link ≡ world_of root between held.link = drops_world root held.link between after new.file (dropped f) in
-        let gone : IsGone (world_of root between held.link) (Ours (Close e) ∷ s.deeds ++ past) = closes (world_of root between held.link) (s.deeds ++ past) e k.0 k.1 in (
+        let same : world_of site after held.link (s.deeds ++ past) ≡ world_of site between held.link (s.deeds ++ past) = drops_world site held.link between after (s.deeds ++ past) new.file (dropped f) in
+        let gone : IsGone (world_of site between held.link (s.deeds ++ past)) (Ours (Close e) ∷ s.deeds ++ past) = closes (world_of site between held.link (s.deeds ++ past)) (s.deeds ++ past) e k.0 k.1 in (
           subst (λ (w : World). IsGone w (Ours (Close e) ∷ s.deeds ++ past)) (sym same) gone,
-          subst (λ (w : World). due (world_of root before held.link) w past (Ours (Close e) ∷ s.deeds ++ past)) (sym same) k.2,
+          subst (λ (w : World). due (world_of site before held.link past) w past (Ours (Close e) ∷ s.deeds ++ past)) (sym same) k.2,
         );
   }
 
 -- known deeds and a change of what is kept, before what settles
-module _ (From : Table → World → Held → List Act → Type 0) (due : World → World → List Deed → List Deed → Type 0) (may : Bool) (root : List ℕ) (held mid new : Held) (net files : Type 0) (before after : Disk) (old now : List Entry)
+module _ (From : Table → World → Held → List Act → Type 0) (due : World → World → List Deed → List Deed → Type 0) (may : Bool) (site : Site) (held mid new : Held) (net files : Type 0) (before after : Disk) (old now : List Entry)
     (deeds : List Deed) (are : AreDeeds deeds) (gains : net → now ≡ told held.link deeds old) (count : (trace : List Entry) → open_clients (told held.link deeds trace) ≡ open_clients trace) (link : mid.link ≡ held.link) (file : mid.file ≡ held.file)
-    (from : files → (past : List Deed) → From before.table (world_of root before held.link) held (ours past) → Matches before.table (world_of root before held.link) mid (ours (deeds ++ past)))
-    (dues : files → (past all : List Deed) → From before.table (world_of root before held.link) held (ours past) → Settles (world_of root after held.link) may (deeds ++ past) all → due (world_of root before held.link) (world_of root after held.link) past all) where
+    (from : files → (past : List Deed) → From before.table (world_of site before held.link past) held (ours past) → Matches before.table (world_of site before held.link (deeds ++ past)) mid (ours (deeds ++ past)))
+    (dues : files → (past all : List Deed) → From before.table (world_of site before held.link past) held (ours past) → Settles (world_of site after held.link (deeds ++ past)) may (deeds ++ past) all → due (world_of site before held.link past) (world_of site after held.link (deeds ++ past)) past all) where
   files_from : FileStep mid.link mid.file new.file before after → FileStep held.link held.file new.file before after
   files_from does = let P : ℕ → Option ℕ → Type 0 = λ l o. FileStep l o new.file before after in subst (λ (l : ℕ). P l held.file) link (subst (P mid.link) file does)
 
-  settles_on : SettlesOn root mid new files before after → StepsBy From due root held (Some new) net files before after old now
+  settles_on : SettlesOn site mid new files before after → StepsBy From due site held (Some new) net files before after old now
   settles_on s = record {
     deeds = deeds;
     are = are;
@@ -55,9 +56,9 @@ module _ (From : Table → World → Held → List Act → Type 0) (due : World 
     does = λ f. files_from (s.does f);
     fits = s.fits;
     keeps = λ f past start.
-        let P : ℕ → Type 0 = λ l. Matches before.table (world_of root before l) mid (ours (deeds ++ past)) → Rattle.server_model.specs.Serves.Stands after.table (world_of root after l) new (ours (deeds ++ past)) in
-        let stands = subst P link (s.keeps f (ours (deeds ++ past))) (from f past start) in
-        (stands, dues f past (deeds ++ past) start (Settles.rests (stands_rests after.table (world_of root after held.link) new (deeds ++ past) stands)));
+        let P : ℕ → Type 0 = λ l. Matches before.table (world_of site before l (deeds ++ past)) mid (ours (deeds ++ past)) → Rattle.server_model.specs.Serves.Stands after.table (world_of site after l (deeds ++ past)) new (ours (deeds ++ past)) in
+        let stands = subst P link (s.keeps f (deeds ++ past)) (from f past start) in
+        (stands, dues f past (deeds ++ past) start (Settles.rests (stands_rests after.table (world_of site after held.link (deeds ++ past)) new (deeds ++ past) stands)));
   }
 
   settles_by : (e : Ending) → MayEnd may e → (world : World) (deeds : List Deed) → has_failed (ours deeds) ≡ false → (e ≡ ending.Clean → IsFinished world (ours deeds)) → Settles world may deeds (Ours (Close e) ∷ deeds)
@@ -69,7 +70,7 @@ module _ (From : Table → World → Held → List Act → Type 0) (due : World 
   settles_by ending.NoMemory allowed world deeds sound clean = Settles.yields allowed
   settles_by ending.Gate allowed world deeds sound clean = absurd allowed
 
-  settles_out : (e : Ending) → SettlesOut may root mid new e files before after → StopsBy From due root held new e net files before after old now
+  settles_out : (e : Ending) → SettlesOut may site mid new e files before after → StopsBy From due site held new e net files before after old now
   settles_out e s = record {
     deeds = deeds;
     are = are;
@@ -79,11 +80,11 @@ module _ (From : Table → World → Held → List Act → Type 0) (due : World 
     does = λ f. files_from (s.does f);
     keeps = λ f past start.
         let m = from f past start in
-        let P : ℕ → Type 0 = λ l. Matches before.table (world_of root before l) mid (ours (deeds ++ past)) → IsRight (world_of root after l) (ours (deeds ++ past)) × (e ≡ ending.Clean → IsFinished (world_of root after l) (ours (deeds ++ past))) in
-        let k = subst P link (s.keeps f (ours (deeds ++ past))) m in
-        (k.0, k.1, dues f past (Ours (Close e) ∷ deeds ++ past) start (settles_by e s.allowed (world_of root after held.link) (deeds ++ past) m.sound k.1));
+        let P : ℕ → Type 0 = λ l. Matches before.table (world_of site before l (deeds ++ past)) mid (ours (deeds ++ past)) → IsRight (world_of site after l (deeds ++ past)) (ours (deeds ++ past)) × (e ≡ ending.Clean → IsFinished (world_of site after l (deeds ++ past)) (ours (deeds ++ past))) in
+        let k = subst P link (s.keeps f (deeds ++ past)) m in
+        (k.0, k.1, dues f past (Ours (Close e) ∷ deeds ++ past) start (settles_by e s.allowed (world_of site after held.link (deeds ++ past)) (deeds ++ past) m.sound k.1));
   }
 
-  pub then_settles : (result : Option Ending) → SettlesTo may root mid new result files before after → GoesBy From due root held new result net files before after old now
+  pub then_settles : (result : Option Ending) → SettlesTo may site mid new result files before after → GoesBy From due site held new result net files before after old now
   then_settles None s = settles_on s
   then_settles (Some e) s = settles_out e s

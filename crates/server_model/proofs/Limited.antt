@@ -4,7 +4,8 @@ use Rattle.std.proofs.lemmas.List.{append_cancel_right}
 use Rattle.lt_world.specs.declared.net.Address.{Address}
 use Rattle.lt_world.specs.declared.net.Ending.TheVariants as ending
 use Rattle.lt_world.specs.Trace.{Act, Entry, Accepted, Readable, Writable, Read, ReadEnd, NotYet, Failed, Wrote, Connect, Close}
-use Rattle.server_model.specs.Plan.{World}
+use Rattle.server_model.specs.Site.{Site}
+use Rattle.server_model.specs.World.{World}
 use Rattle.server_model.specs.Deeds.{Deed, Ours, own, told, AreDeeds}
 use Rattle.server_model.specs.Open.{counted, open_clients}
 use Rattle.server_model.specs.Due.{Settles, rests, finishes, fails, yields, IsReadAct, IsWriteAct, connection_limit, DueArrival, comes, refused, full, DueRead, DueWrite, Due}
@@ -116,15 +117,15 @@ module _ (client : ℕ) (deeds : List Deed) (old now : List Entry) (are : AreDee
   due_within (Connect owner to link) failed before after due gains = absurd due
   due_within (Close e) failed before after due gains = absurd due
 
-turn_within : (root : List ℕ) (event : Act) (link : ℕ) (parts : List Part) (before after : Seen) (old now : List Entry) → now ≡ all_told parts (record { link = link; act = event } ∷ old) → DueParts root event link parts before after old now
+turn_within : (site : Site) (event : Act) (link : ℕ) (parts : List Part) (before after : Seen) (old now : List Entry) → now ≡ all_told parts (record { link = link; act = event } ∷ old) → DueParts site event link parts before after old now
     → open_clients old ≤ connection_limit → open_clients now ≤ connection_limit
-turn_within root event link [] before after old now gains due within = absurd due
-turn_within root event link (p ∷ []) before after old now gains due within =
+turn_within site event link [] before after old now gains due within = absurd due
+turn_within site event link (p ∷ []) before after old now gains due within =
     due_within p.client p.deeds old now due.1 within event _ _ _ due.2 (gains ∙ ap (λ (l : ℕ). told p.client p.deeds (record { link = l; act = event } ∷ old)) (sym due.0))
-turn_within root event link (p ∷ q ∷ parts) before after old now gains due within = absurd due
+turn_within site event link (p ∷ q ∷ parts) before after old now gains due within = absurd due
 
 -- a run never opens more clients than the limit
-pub run_within : (root : List ℕ) (before after : Told) → IsRun root before after → open_clients before.trace ≤ connection_limit → open_clients after.trace ≤ connection_limit
-run_within root before after none within = within
-run_within root before after (more {now = mid} run turn) within =
-    turn_within root turn.event turn.link turn.parts mid.seen after.seen mid.trace after.trace turn.gains turn.due (run_within root before mid run within)
+pub run_within : (site : Site) (before after : Told) → IsRun site before after → open_clients before.trace ≤ connection_limit → open_clients after.trace ≤ connection_limit
+run_within site before after none within = within
+run_within site before after (more {now = mid} run turn) within =
+    turn_within site turn.event turn.link turn.parts mid.seen after.seen mid.trace after.trace turn.gains turn.due (run_within site before mid run within)

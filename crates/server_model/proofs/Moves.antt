@@ -6,8 +6,9 @@ use Rattle.lt_world.specs.declared.net.Address.{Address}
 use Rattle.lt_world.specs.declared.files.FileCall.{FileCall}
 use Rattle.lt_world.specs.Disk.{Table}
 use Rattle.lt_world.specs.Trace.{Act, Way, Accepted, Read, ReadEnd, NotYet, Wrote}
-use Rattle.server_model.specs.Request.{Head, Request, Unfinished, Refused, Open, Declined, Complete, HasHead, front_of, request_of, is_complete}
-use Rattle.server_model.specs.Plan.{World, call_count}
+use Rattle.server_model.specs.Settings.{limit_for}
+use Rattle.server_model.specs.Request.{Head, Request, Unfinished, Refused, Open, Declined, Complete, HasHead, front_of, request_of, is_complete, Limits}
+use Rattle.server_model.specs.World.{World, call_count}
 use Rattle.server_model.specs.Reply.{Whole, Reply, continue_of, reply}
 use Rattle.server_model.specs.Stream.{is_whole, is_followed, Passed, reply_at, left_after, replies_to}
 use Rattle.server_model.specs.Client.{input_of, output_of, IsPlanned, AskedInTurn}
@@ -57,8 +58,8 @@ complete_head (Open head) is = absurd (cc (is))
 complete_head (Declined status head) is = absurd (cc (is))
 complete_head (Complete head content) is = (head, content, refl)
 
-pub complete_stays : (bytes more : List ℕ) → is_complete (request_of bytes) ≡ true → request_of (bytes ++ more) ≡ request_of bytes
-complete_stays bytes more is = let h = complete_head (request_of bytes) is in complete_grows bytes more h.0 h.1 h.2 ∙ sym h.2
+pub complete_stays : (limits : Limits) (bytes more : List ℕ) → is_complete (request_of limits bytes) ≡ true → request_of limits (bytes ++ more) ≡ request_of limits bytes
+complete_stays limits bytes more is = let h = complete_head (request_of limits bytes) is in complete_grows limits bytes more h.0 h.1 h.2 ∙ sym h.2
 
 module _ (world : World) (acts others : List Act) where
   -- what was planned still is, after further bytes came or were taken
@@ -67,8 +68,8 @@ module _ (world : World) (acts others : List Act) where
     before = p.before;
     passed = subst (λ (l : List ℕ). Passed k (replies_to world l) p.before) (sym input) (passed_grows world (input_of acts) k p.before p.passed more);
     taken = (p.taken.0 ++ out, sym (append_assoc p.before p.taken.0 out) ∙ ap (λ l. l ++ out) p.taken.1 ∙ sym output);
-    whole = ap (λ (l : List ℕ). is_complete (request_of (left_after k l))) input ∙ ap (λ l. is_complete (request_of l)) (left_grows world (input_of acts) k p.before p.passed more)
-        ∙ ap is_complete (complete_stays (left_after k (input_of acts)) more p.whole) ∙ p.whole;
+    whole = ap (λ (l : List ℕ). is_complete (request_of (limit_for world) (left_after (limit_for world) k l))) input ∙ ap (λ l. is_complete (request_of (limit_for world) l)) (left_grows world (input_of acts) k p.before p.passed more)
+        ∙ ap is_complete (complete_stays (limit_for world) (left_after (limit_for world) k (input_of acts)) more p.whole) ∙ p.whole;
   }
 
   pub turn_grows : (more out : List ℕ) → input_of others ≡ input_of acts ++ more → output_of others ≡ output_of acts ++ out → AskedInTurn world acts → AskedInTurn world others
@@ -118,31 +119,31 @@ module _ (before after : Table) (world : World) (held new : Held) (acts others :
   pub at_as : (s : Stage) → IsAt before world held acts s → IsAt after world new others s
   at_as (Awaiting k) at = record {
     passed = passed_as k (output_of acts) (output_of others) (sym out_same) at.passed;
-    input = input ∙ at.input ∙ ap (left_after k) (sym in_same);
+    input = input ∙ at.input ∙ ap (left_after (limit_for world) k) (sym in_same);
     owed = owed ∙ at.owed;
     staged = staged_same ∙ at.staged;
     file = file at.file;
   }
   at_as (Heading k head) at = record {
     passed = passed_as k (output_of acts) (output_of others) (sym out_same) at.passed;
-    front = ap (λ (l : List ℕ). front_of (left_after k l)) in_same ∙ at.front ∙ ap (HasHead head) (sym input);
+    front = ap (λ (l : List ℕ). front_of (left_after (limit_for world) k l)) in_same ∙ at.front ∙ ap (HasHead head) (sym input);
     owed = owed ∙ at.owed;
     staged = staged_same ∙ at.staged;
     file = file at.file;
   }
   at_as (Taking k head s content) at = record {
-    begun = begun_as before after world held new acts others in_same out_same owed staged_same bytes k (continue_of head) at.begun;
+    begun = begun_as before after world held new acts others in_same out_same owed staged_same bytes k (continue_of (limit_for world) head) at.begun;
     read = at.read;
-    front = ap (λ (l : List ℕ). front_of (left_after k l)) in_same ∙ at.front ∙ ap (λ l. HasHead head (at.read ++ l)) (sym input);
+    front = ap (λ (l : List ℕ). front_of (left_after (limit_for world) k l)) in_same ∙ at.front ∙ ap (λ l. HasHead head (at.read ++ l)) (sym input);
     stands = at.stands;
     content_is = at.content_is;
     own = at.own;
     file = file at.file;
   }
   at_as (Asking k r) at = record {
-    begun = begun_as before after world held new acts others in_same out_same owed staged_same bytes k (told_first r) at.begun;
-    request = ap (λ (l : List ℕ). request_of (left_after k l)) in_same ∙ at.request;
-    input = λ complete. input ∙ at.input complete ∙ ap (left_after (k + 1)) (sym in_same);
+    begun = begun_as before after world held new acts others in_same out_same owed staged_same bytes k (told_first (limit_for world) r) at.begun;
+    request = ap (λ (l : List ℕ). request_of (limit_for world) (left_after (limit_for world) k l)) in_same ∙ at.request;
+    input = λ complete. input ∙ at.input complete ∙ ap (left_after (limit_for world) (k + 1)) (sym in_same);
     file = file at.file;
   }
   at_as (Answering k last) at = record {
@@ -154,7 +155,7 @@ module _ (before after : Table) (world : World) (held new : Held) (acts others :
     shows = shows_as before after world held new acts others in_same out_same owed staged_same bytes at.shows;
     whole = ap (λ (l : List ℕ). (reply_at k (replies_to world l)).extent) in_same ∙ at.whole;
     last_is = ap (λ (l : List ℕ). (reply_at k (replies_to world l)).last) in_same ∙ at.last_is;
-    input = λ follows. input ∙ at.input follows ∙ ap (left_after (k + 1)) (sym in_same);
+    input = λ follows. input ∙ at.input follows ∙ ap (left_after (limit_for world) (k + 1)) (sym in_same);
   }
 
 -- a client that arrives, for which nothing was asked
@@ -228,7 +229,7 @@ module _ (opened : Table) (world : World) (held : Held) (acts : List Act) (bytes
     };
     read = at.read;
     front = ap front_of (left_grows world (input_of acts) k at.begun.before at.begun.passed bytes)
-        ∙ front_grows (left_after k (input_of acts)) bytes head (at.read ++ held.input) at.front
+        ∙ front_grows (left_after (limit_for world) k (input_of acts)) bytes head (at.read ++ held.input) at.front
         ∙ ap (HasHead head) (append_assoc at.read held.input bytes);
     stands = at.stands;
     content_is = at.content_is;
@@ -242,10 +243,10 @@ module _ (opened : Table) (world : World) (held : Held) (acts : List Act) (bytes
       let whole : (next_reply world (input_of acts) k).extent ≡ Whole = ap (λ (r : Reply). r.extent) (sym now) ∙ at.whole in
       let last : (next_reply world (input_of acts) k).last ≡ false = ap (λ (r : Reply). r.last) (sym now) ∙ at.last_is in
       let followed : is_followed (next_reply world (input_of acts) k) ≡ true = followed_by (next_reply world (input_of acts) k) whole last in
-      let complete : is_complete (next_request (input_of acts) k) ≡ true = followed_complete world k (next_request (input_of acts) k) followed in
+      let complete : is_complete (next_request (limit_for world) (input_of acts) k) ≡ true = followed_complete world k (next_request (limit_for world) (input_of acts) k) followed in
       let passed = passed_grows world (input_of acts) k at.before at.passed bytes in
       let further = passed_next world (input_of acts) k at.before at.passed followed in
-      let request : next_request (input_of acts ++ bytes) k ≡ next_request (input_of acts) k = ap request_of (left_grows world (input_of acts) k at.before at.passed bytes) ∙ complete_stays (left_after k (input_of acts)) bytes complete in
+      let request : next_request (limit_for world) (input_of acts ++ bytes) k ≡ next_request (limit_for world) (input_of acts) k = ap (request_of (limit_for world)) (left_grows world (input_of acts) k at.before at.passed bytes) ∙ complete_stays (limit_for world) (left_after (limit_for world) k (input_of acts)) bytes complete in
       let same : reply_at k (replies_to world (input_of acts ++ bytes)) ≡ reply_at k (replies_to world (input_of acts)) =
       passed_reply world (input_of acts ++ bytes) k at.before passed ∙ ap (reply world k) request ∙ sym now in
       record {
@@ -299,8 +300,8 @@ module _ (opened : Table) (world : World) (held : Held) (acts : List Act) where
     at_took : (s : Stage) → 0 < length held.owed → IsAt opened world held acts s → IsAt opened world (took held n) (Wrote offered bytes ∷ acts) s
     at_took (Awaiting k) some at = absurd (omega (arith, some, ap length at.owed))
     at_took (Heading k head) some at = absurd (omega (arith, some, ap length at.owed))
-    at_took (Taking k head s content) some at = record { begun = begun_took k (continue_of head) at.begun; read = at.read; front = at.front; stands = at.stands; content_is = at.content_is; own = at.own; file = at.file }
-    at_took (Asking k r) some at = record { begun = begun_took k (told_first r) at.begun; request = at.request; input = at.input; file = at.file }
+    at_took (Taking k head s content) some at = record { begun = begun_took k (continue_of (limit_for world) head) at.begun; read = at.read; front = at.front; stands = at.stands; content_is = at.content_is; own = at.own; file = at.file }
+    at_took (Asking k r) some at = record { begun = begun_took k (told_first (limit_for world) r) at.begun; request = at.request; input = at.input; file = at.file }
     at_took (Answering k last) some at = record {
       before = at.before;
       taken = at.taken ++ bytes;
@@ -334,8 +335,8 @@ module _ (opened : Table) (world : World) (held : Held) (acts : List Act) where
     at_staged : (s : Stage) → 0 < length held.owed → IsAt opened world held acts s → IsAt opened world (staged held bytes) acts s
     at_staged (Awaiting k) some at = absurd (omega (arith, some, ap length at.owed))
     at_staged (Heading k head) some at = absurd (omega (arith, some, ap length at.owed))
-    at_staged (Taking k head s content) some at = record { begun = begun_staged k (continue_of head) at.begun; read = at.read; front = at.front; stands = at.stands; content_is = at.content_is; own = at.own; file = at.file }
-    at_staged (Asking k r) some at = record { begun = begun_staged k (told_first r) at.begun; request = at.request; input = at.input; file = at.file }
+    at_staged (Taking k head s content) some at = record { begun = begun_staged k (continue_of (limit_for world) head) at.begun; read = at.read; front = at.front; stands = at.stands; content_is = at.content_is; own = at.own; file = at.file }
+    at_staged (Asking k r) some at = record { begun = begun_staged k (told_first (limit_for world) r) at.begun; request = at.request; input = at.input; file = at.file }
     at_staged (Answering k last) some at = record { before = at.before; taken = at.taken; passed = at.passed; output = at.output; owed = at.owed; shows = shows; whole = at.whole; last_is = at.last_is; input = at.input }
 
     pub matches_staged : Matches opened world held acts → 0 < length held.owed → Matches opened world (staged held bytes) acts

@@ -1,28 +1,44 @@
 -- Which reply is the last of its connection, and how many there are at most.
-use Rattle.std.proofs.Common.{◌≡◌, ◌⊎◌, inl, inr, ℕ, zero, suc, ◌+◌, ◌<◌, List, take, Bool, true, false, ◌||◌, nat_le, refl, ap, arith}
-use Rattle.std.specs.Prelude.{not}
+use Rattle.std.proofs.Common.{◌≡◌, ◌⊎◌, inl, inr, ℕ, zero, suc, ◌+◌, ◌<◌, List, take, Bool, true, false, ◌||◌, nat_le, refl, sym, ◌∙◌, ap, arith}
+use Rattle.std.specs.Prelude.{not, Some, ◌++◌}
 use Rattle.std.proofs.lemmas.Bool.{false≢true}
 use Rattle.std.proofs.lemmas.Bool.Decides.{nat_tests}
 use Rattle.http_head.specs.Options.{closes}
 use Rattle.http_head.proofs.OptionLemmas.{options_so}
-use Rattle.server_model.specs.Request.{Head, Request, Unfinished, Refused, Open, Declined, Complete, request_of, rest_of}
-use Rattle.server_model.specs.Plan.{World}
-use Rattle.server_model.specs.Reply.{request_limit, is_last_request, reply}
-use Rattle.server_model.specs.Stream.{is_followed, Passed, replies_to}
+use Rattle.server_model.specs.Settings.{Settings, request_limit, settings_of, limit_for, is_reached, is_last_request}
+use Rattle.server_model.specs.Request.{Head, Request, Unfinished, Refused, Open, Declined, Complete, Limits, request_of, rest_of}
+use Rattle.server_model.specs.World.{World, has_failed_call}
+use Rattle.server_model.specs.Plan.{outcome, is_served, plan}
+use Rattle.server_model.specs.Reply.{reply}
+use Rattle.lt_world.specs.Disk.{Node, Missing, Directory, File}
+use Rattle.lt_world.specs.declared.files.FileCall.TheVariants as call
+use Rattle.server_model.specs.Stream.{is_followed, Passed, left_after, replies_to}
 use Rattle.server_model.proofs.Requests.{complete_front, front_read}
-use Rattle.server_model.proofs.Replying.{Answered, by_bytes}
+use Rattle.server_model.proofs.Replying.{Answered, by_bytes, passed_followed}
 
 -- ---- which reply is the last
 
-says_so : (bytes : List ℕ) (head : Head) (content : List ℕ) → request_of bytes ≡ Complete head content → head.close ≡ closes head.minor head.fields
-says_so bytes head content is =
-    let f = complete_front bytes head content is in
+says_so : (limits : Limits) (bytes : List ℕ) (head : Head) (content : List ℕ) → request_of limits bytes ≡ Complete head content → head.close ≡ closes head.minor head.fields
+says_so limits bytes head content is =
+    let f = complete_front limits bytes head content is in
     let h = front_read bytes head f.0 f.1 in
     (options_so (take h.0 bytes) head h.1).0
 
+-- a plan comes with the settings of its request
+outcome_settings : (settings : Settings) (find opens served : Bool) (node : Node) → (outcome settings find opens served node).settings ≡ settings
+outcome_settings settings true opens served node = refl
+outcome_settings settings false opens served Missing = refl
+outcome_settings settings false opens served Directory = refl
+outcome_settings settings false opens false (File bytes time) = refl
+outcome_settings settings false true true (File bytes time) = refl
+outcome_settings settings false false true (File bytes time) = refl
+
+pub plan_settings : (world : World) (k : ℕ) (head : Head) → (plan world k head).settings ≡ settings_of world (Some head)
+plan_settings world k head = outcome_settings (settings_of world (Some head)) (has_failed_call world k call.Find 0) (has_failed_call world k call.Open 0) (is_served head.method) (world.tree (world.site.root ++ head.target.path))
+
 -- the reply to a request is the last exactly where its head says so, or no further request may come
-pub last_is : (world : World) (k : ℕ) (bytes : List ℕ) (head : Head) (content : List ℕ) → request_of bytes ≡ Complete head content → (reply world k (Complete head content)).last ≡ (closes head.minor head.fields || nat_le request_limit (k + 1))
-last_is world k bytes head content is = ap (λ t. t || nat_le request_limit (k + 1)) (says_so bytes head content is)
+pub last_is : (world : World) (k : ℕ) (bytes : List ℕ) (head : Head) (content : List ℕ) → request_of (limit_for world) bytes ≡ Complete head content → (reply world k (Complete head content)).last ≡ (closes head.minor head.fields || is_reached (settings_of world (Some head)).request_limit k)
+last_is world k bytes head content is = (λ i. says_so (limit_for world) bytes head content is i || is_reached (plan_settings world k head i).request_limit k)
 
 -- ---- how many replies
 
@@ -34,22 +50,33 @@ not_last : (last : Bool) → not last ≡ true → last ≡ false
 not_last true is = absurd (false≢true is)
 not_last false is = refl
 
--- a reply that is followed isn't that to the last request
+-- a reply that is followed isn't that to the last request, by its settings
+followed_unreached : (world : World) (k : ℕ) (head : Head) (content : List ℕ) → is_followed (reply world k (Complete head content)) ≡ true → is_reached (settings_of world (Some head)).request_limit k ≡ false
+followed_unreached world k head content is =
+    let limit : ℕ = (plan world k head).settings.request_limit in
+    ap (λ (s : Settings). is_reached s.request_limit k) (sym (plan_settings world k head)) ∙ or_false head.close (is_reached limit k) (not_last (is_last_request limit k head) is)
+
+pub passed_unreached : (world : World) (input before : List ℕ) (k j : ℕ) (head : Head) (content : List ℕ) → Passed k (replies_to world input) before → j < k
+    → request_of (limit_for world) (left_after (limit_for world) j input) ≡ Complete head content → is_reached (settings_of world (Some head)).request_limit j ≡ false
+passed_unreached world input before k j head content passed below is = followed_unreached world j head content (ap (λ (r : Request). is_followed (reply world j r)) (sym is) ∙ passed_followed world input k before passed j below)
+
+-- so it isn't where each has the same limit
 followed_below : (world : World) (k : ℕ) (r : Request) → is_followed (reply world k r) ≡ true → k + 1 < request_limit
 followed_below world k Unfinished is = absurd (false≢true is)
 followed_below world k (Refused status) is = absurd (false≢true is)
 followed_below world k (Open head) is = absurd (false≢true is)
 followed_below world k (Declined status head) is = absurd (false≢true is)
 followed_below world k (Complete head content) is =
-    let open_still : nat_le request_limit (k + 1) ≡ false = or_false head.close (nat_le request_limit (k + 1)) (not_last (is_last_request k head) is) in
-    grind (arith, nat_tests, open_still)
+    let unreached : is_reached request_limit k ≡ false = followed_unreached world k head content is in
+    let below : nat_le request_limit (k + 1) ≡ false = or_false (nat_le 4294967295 k) (nat_le request_limit (k + 1)) unreached in
+    grind (arith, nat_tests, below)
 
 answered_below : (world : World) (j k : ℕ) (bytes before : List ℕ) → Answered world j k bytes before → (k ≡ 0) ⊎ (j + k < request_limit)
 answered_below world j zero bytes before is = inl refl
-answered_below world j (suc k) bytes before is = by k (answered_below world (j + 1) k (rest_of bytes) is.1.0 is.1.2)
+answered_below world j (suc k) bytes before is = by k (answered_below world (j + 1) k (rest_of (limit_for world) bytes) is.1.0 is.1.2)
   where
     here : j + 1 < request_limit
-    here = followed_below world j (request_of bytes) is.0
+    here = followed_below world j (request_of (limit_for world) bytes) is.0
 
     by : (n : ℕ) → (n ≡ 0) ⊎ (j + 1 + n < request_limit) → (suc n ≡ 0) ⊎ (j + suc n < request_limit)
     by n (inl none) = inr (omega (arith, none, here))

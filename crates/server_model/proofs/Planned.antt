@@ -5,8 +5,11 @@ use Rattle.std.proofs.Math.Seq.{take-length}
 use Rattle.lt_world.specs.declared.files.FileCall.TheVariants as call
 use Rattle.lt_world.specs.declared.net.Owner.{Owner}
 use Rattle.lt_world.specs.Disk.{Disk, Node, Table, Missing, Directory, File, asked, opened, released}
+use Rattle.server_model.specs.Settings.{settings_at}
+use Rattle.server_model.specs.Site.{Site}
 use Rattle.server_model.specs.Request.{Head}
-use Rattle.server_model.specs.Plan.{World, Outcome, Error, Content, is_served, outcome, plan, world_of, call_count, has_failed_call, with_call}
+use Rattle.server_model.specs.World.{Arrival, Side, World, world_at, call_count, has_failed_call, with_call}
+use Rattle.server_model.specs.Plan.{Outcome, error_outcome, file_outcome, is_served, outcome, plan}
 use Rattle.server_model.specs.Reply.{reply}
 use Rattle.chunkqueue.specs.Items.{Item, Byte, bytes_of, item_byte, range}
 use Rattle.server_model.specs.Files.{AllFit}
@@ -17,7 +20,7 @@ use Rattle.server_model.proofs.FileSteps.{same_files, asks_file, opens_file, and
 use Rattle.lt_world.proofs.Disks.{opened_own}
 use Rattle.chunkqueue.proofs.Ranges.{bytes_of-range}
 
-module _ (root : List ℕ) (client k : ℕ) (head : Head) (owner : Owner) (conn : owner.conn ≡ client) (request : owner.request ≡ k) (before : Disk) where
+module _ (site : Site) (client k : ℕ) (head : Head) (owner : Owner) (conn : owner.conn ≡ client) (request : owner.request ≡ k) (before : Disk) where
   abbrev path : List ℕ
   path = head.target.path
 
@@ -28,70 +31,72 @@ module _ (root : List ℕ) (client k : ℕ) (head : Head) (owner : Owner) (conn 
   abbrev after_open : Bool → Disk
   after_open failed = asked call.Open owner failed (after_find false)
 
-  abbrev world : World
-  world = world_of root before client
+  abbrev world : Side → World
+  world side = world_at site before client side
 
   -- nothing was asked, for want of memory
-  pub calls_none : CallsFor root client k None before before
-  calls_none = record { files = same_files client before None; others = λ j what apart. refl; replies = λ j r apart. refl }
+  pub calls_none : CallsFor site client k None before before
+  calls_none = record { files = same_files client before None; others = λ side j what apart. refl; replies = λ side j r apart. refl }
 
-  find_world : (failed : Bool) → world_of root (after_find failed) client ≡ with_call call.Find k failed world
-  find_world failed = asked_is root before client k call.Find owner failed conn request
+  find_world : (side : Side) (failed : Bool) → world_at site (after_find failed) client side ≡ with_call call.Find k failed (world side)
+  find_world side failed = asked_is site before client k side call.Find owner failed conn request
 
   -- a find
-  pub calls_find : (failed : Bool) → CallsFor root client k None before (asked call.Find owner failed before)
+  pub calls_find : (failed : Bool) → CallsFor site client k None before (asked call.Find owner failed before)
   calls_find failed = record {
     files = asks_file client before None call.Find owner failed conn;
-    others = λ j what apart. ap (λ (w : World). call_count w j what) (find_world failed) ∙ count_other world k call.Find failed j what apart;
-    replies = λ j r apart. ap (λ (w : World). reply w j r) (find_world failed) ∙ reply_other world call.Find k j failed apart r;
+    others = λ side j what apart. ap (λ (w : World). call_count w j what) (find_world side failed) ∙ count_other (world side) k call.Find failed j what apart;
+    replies = λ side j r apart. ap (λ (w : World). reply w j r) (find_world side failed) ∙ reply_other (world side) call.Find k j failed apart r;
   }
 
   -- a plan, by what its find and its open told
-  plan_at : (w v : World) (o : Outcome) (a b : Bool) → w ≡ v → has_failed_call v k call.Find ≡ a → has_failed_call v k call.Open ≡ b → outcome a b (is_served head.method) (v.tree (v.root ++ path)) ≡ o → plan w k head ≡ o
-  plan_at w v o a b is find open_is out = ap (λ (u : World). plan u k head) is ∙ (λ i. outcome (find i) (open_is i) (is_served head.method) (v.tree (v.root ++ path))) ∙ out
+  plan_at : (w v : World) (o : Outcome) (a b : Bool) (arrival : Option Arrival) → v.site ≡ site → v.side.arrival ≡ arrival → w ≡ v → has_failed_call v k call.Find 0 ≡ a → has_failed_call v k call.Open 0 ≡ b
+      → outcome (settings_at site arrival (Some head)) a b (is_served head.method) (v.tree (v.site.root ++ path)) ≡ o → plan w k head ≡ o
+  plan_at w v o a b arrival here came is find open_is out =
+      ap (λ (u : World). plan u k head) is ∙ (λ i. outcome (settings_at (here i) (came i) (Some head)) (find i) (open_is i) (is_served head.method) (v.tree (v.site.root ++ path))) ∙ out
 
-  plans_found : (status : ℕ) (failed : Bool) → outcome failed false (is_served head.method) (before.tree (root ++ path)) ≡ Error status → PlansError status root client k head before (asked call.Find owner failed before)
-  plans_found status failed out = record {
+  plans_found : (arrival : Option Arrival) (status : ℕ) (failed : Bool) → outcome (settings_at site arrival (Some head)) failed false (is_served head.method) (before.tree (site.root ++ path)) ≡ error_outcome (settings_at site arrival (Some head)) status → PlansError status site arrival client k head before (asked call.Find owner failed before)
+  plans_found arrival status failed out = record {
     calls = calls_find failed;
-    plans = λ finds opens. plan_at (world_of root (after_find failed) client) (with_call call.Find k failed world) (Error status) failed false (find_world failed) (find_failed world k failed finds) (unopened world k failed opens) out;
+    plans = λ side came finds opens. plan_at (world_at site (after_find failed) client side) (with_call call.Find k failed (world side)) (error_outcome (settings_at site arrival (Some head)) status) failed false arrival refl came (find_world side failed) (find_failed (world side) k failed finds) (unopened (world side) k failed opens) out;
   }
 
-  pub plans_find_failed : PlansError 500 root client k head before (asked call.Find owner true before)
-  plans_find_failed = plans_found 500 true refl
+  pub plans_find_failed : (arrival : Option Arrival) → PlansError 500 site arrival client k head before (asked call.Find owner true before)
+  plans_find_failed arrival = plans_found arrival 500 true refl
 
-  pub plans_missing : before.tree (root ++ path) ≡ Missing → PlansError 404 root client k head before (asked call.Find owner false before)
-  plans_missing is = plans_found 404 false (ap (outcome false false (is_served head.method)) is)
+  pub plans_missing : (arrival : Option Arrival) → before.tree (site.root ++ path) ≡ Missing → PlansError 404 site arrival client k head before (asked call.Find owner false before)
+  plans_missing arrival is = plans_found arrival 404 false (ap (outcome (settings_at site arrival (Some head)) false false (is_served head.method)) is)
 
-  pub plans_directory : before.tree (root ++ path) ≡ Directory → PlansError 404 root client k head before (asked call.Find owner false before)
-  plans_directory is = plans_found 404 false (ap (outcome false false (is_served head.method)) is)
+  pub plans_directory : (arrival : Option Arrival) → before.tree (site.root ++ path) ≡ Directory → PlansError 404 site arrival client k head before (asked call.Find owner false before)
+  plans_directory arrival is = plans_found arrival 404 false (ap (outcome (settings_at site arrival (Some head)) false false (is_served head.method)) is)
 
   -- a file stands there, and doesn't answer the method
-  pub plans_not_allowed : (bytes : List ℕ) (time : ℕ) → before.tree (root ++ path) ≡ File bytes time → is_served head.method ≡ false → PlansError 405 root client k head before (asked call.Find owner false before)
-  plans_not_allowed bytes time is other = plans_found 405 false (λ i. outcome false false (other i) (is i))
+  pub plans_not_allowed : (arrival : Option Arrival) (bytes : List ℕ) (time : ℕ) → before.tree (site.root ++ path) ≡ File bytes time → is_served head.method ≡ false → PlansError 405 site arrival client k head before (asked call.Find owner false before)
+  plans_not_allowed arrival bytes time is other = plans_found arrival 405 false (λ i. outcome (settings_at site arrival (Some head)) false false (other i) (is i))
 
-  open_world : (failed : Bool) → world_of root (after_open failed) client ≡ with_call call.Open k failed (with_call call.Find k false world)
-  open_world failed = asked_is root (after_find false) client k call.Open owner failed conn request ∙ ap (with_call call.Open k failed) (find_world false)
+  open_world : (side : Side) (failed : Bool) → world_at site (after_open failed) client side ≡ with_call call.Open k failed (with_call call.Find k false (world side))
+  open_world side failed = asked_is site (after_find false) client k side call.Open owner failed conn request ∙ ap (with_call call.Open k failed) (find_world side false)
 
   -- a find, and an open
-  calls_open : (failed : Bool) → CallsFor root client k None before (after_open failed)
+  calls_open : (failed : Bool) → CallsFor site client k None before (after_open failed)
   calls_open failed = record {
     files = and_then client None None None before (after_find false) (after_open failed) (asks_file client before None call.Find owner false conn) (asks_file client (after_find false) None call.Open owner failed conn);
-    others = λ j what apart. ap (λ (w : World). call_count w j what) (open_world failed) ∙ count_other (with_call call.Find k false world) k call.Open failed j what apart ∙ count_other world k call.Find false j what apart;
-    replies = λ j r apart. ap (λ (w : World). reply w j r) (open_world failed) ∙ reply_other (with_call call.Find k false world) call.Open k j failed apart r ∙ reply_other world call.Find k j false apart r;
+    others = λ side j what apart. ap (λ (w : World). call_count w j what) (open_world side failed) ∙ count_other (with_call call.Find k false (world side)) k call.Open failed j what apart ∙ count_other (world side) k call.Find false j what apart;
+    replies = λ side j r apart. ap (λ (w : World). reply w j r) (open_world side failed) ∙ reply_other (with_call call.Find k false (world side)) call.Open k j failed apart r ∙ reply_other (world side) call.Find k j false apart r;
   }
 
-  plans_opened : (o : Outcome) (failed : Bool) (node : Node) → before.tree (root ++ path) ≡ node → is_served head.method ≡ true → outcome false failed true node ≡ o → PlansTo o root client k head before (after_open failed)
-  plans_opened o failed node is served out finds opens =
-      plan_at (world_of root (after_open failed) client) (with_call call.Open k failed (with_call call.Find k false world)) o false failed (open_world failed) (find_stays world k false failed finds) (open_failed world k false failed opens)
-      ((λ i. outcome false failed (served i) (is i)) ∙ out)
+  plans_opened : (arrival : Option Arrival) (o : Outcome) (failed : Bool) (node : Node) → before.tree (site.root ++ path) ≡ node → is_served head.method ≡ true → outcome (settings_at site arrival (Some head)) false failed true node ≡ o → PlansTo o site arrival client k head before (after_open failed)
+  plans_opened arrival o failed node is served out side came finds opens =
+      plan_at (world_at site (after_open failed) client side) (with_call call.Open k failed (with_call call.Find k false (world side))) o false failed arrival refl came (open_world side failed) (find_stays (world side) k false failed finds) (open_failed (world side) k false failed opens)
+      ((λ i. outcome (settings_at site arrival (Some head)) false failed (served i) (is i)) ∙ out)
 
-  pub plans_open_failed : (bytes : List ℕ) (time : ℕ) → before.tree (root ++ path) ≡ File bytes time → is_served head.method ≡ true → PlansError 500 root client k head before (asked call.Open owner true (asked call.Find owner false before))
-  plans_open_failed bytes time is served = record { calls = calls_open true; plans = plans_opened (Error 500) true (File bytes time) is served refl }
+  pub plans_open_failed : (arrival : Option Arrival) (bytes : List ℕ) (time : ℕ) → before.tree (site.root ++ path) ≡ File bytes time → is_served head.method ≡ true → PlansError 500 site arrival client k head before (asked call.Open owner true (asked call.Find owner false before))
+  plans_open_failed arrival bytes time is served = record { calls = calls_open true; plans = plans_opened arrival (error_outcome (settings_at site arrival (Some head)) 500) true (File bytes time) is served refl }
 
   -- the file is opened
-  pub plans_file : (file size time : ℕ) (bytes : List ℕ) → before.tree (root ++ path) ≡ File bytes time → is_served head.method ≡ true → length bytes ≡ size → before.table file ≡ None
-      → PlansFile file size root client k head before (opened file bytes (asked call.Open owner false (asked call.Find owner false before)))
-  plans_file file size time bytes is served len fresh = record {
+  pub plans_file : (arrival : Option Arrival) (file size time : ℕ) (bytes : List ℕ) → before.tree (site.root ++ path) ≡ File bytes time → is_served head.method ≡ true → length bytes ≡ size → before.table file ≡ None
+      → PlansFile file size site arrival client k head before (opened file bytes (asked call.Open owner false (asked call.Find owner false before)))
+  plans_file arrival file size time bytes is served len fresh = record {
     calls = record {
       files = and_then client None None (Some file) before (after_open false) (opened file bytes (after_open false)) (calls_open false).files (opens_file client (after_open false) file bytes fresh);
       others = (calls_open false).others;
@@ -100,7 +105,7 @@ module _ (root : List ℕ) (client k : ℕ) (head : Head) (owner : Owner) (conn 
     bytes = bytes;
     opened = opened_own file bytes before.table;
     has_size = len;
-    plans = plans_opened (Content bytes) false (File bytes time) is served refl;
+    plans = plans_opened arrival (file_outcome (settings_at site arrival (Some head)) bytes) false (File bytes time) is served refl;
   }
 
 -- the bytes of a whole file
@@ -126,16 +131,16 @@ pub file_reply : (table : Table) (file : ℕ) (head bytes : List ℕ) → table 
 file_reply table file head bytes is = map-append (item_byte table) (map Byte head) (range file 0 (length bytes)) ∙ (λ i. memory_bytes table head i ++ whole_range table file bytes is i)
 
 -- the file is given back at once
-module _ (root : List ℕ) (client k : ℕ) (head : Head) (file : ℕ) (before between after : Disk) (same : after ≡ released file between) where
-  same_world : world_of root after client ≡ world_of root between client
-  same_world = ap (λ (d : Disk). world_of root d client) same
+module _ (site : Site) (client k : ℕ) (head : Head) (file : ℕ) (before between after : Disk) (same : after ≡ released file between) where
+  same_world : (side : Side) → world_at site after client side ≡ world_at site between client side
+  same_world side = ap (λ (d : Disk). world_at site d client side) same
 
-  pub release_calls : CallsFor root client k (Some file) before between → CallsFor root client k None before after
+  pub release_calls : CallsFor site client k (Some file) before between → CallsFor site client k None before after
   release_calls calls = record {
     files = and_then client None (Some file) None before between after calls.files (drops client between after (Some file) same);
-    others = λ j what apart. ap (λ (w : World). call_count w j what) same_world ∙ calls.others j what apart;
-    replies = λ j r apart. ap (λ (w : World). reply w j r) same_world ∙ calls.replies j r apart;
+    others = λ side j what apart. ap (λ (w : World). call_count w j what) (same_world side) ∙ calls.others side j what apart;
+    replies = λ side j r apart. ap (λ (w : World). reply w j r) (same_world side) ∙ calls.replies side j r apart;
   }
 
-  pub release_plans : (o : Outcome) → PlansTo o root client k head before between → PlansTo o root client k head before after
-  release_plans o plans finds opens = ap (λ (w : World). plan w k head) same_world ∙ plans finds opens
+  pub release_plans : (o : Outcome) (arrival : Option Arrival) → PlansTo o site arrival client k head before between → PlansTo o site arrival client k head before after
+  release_plans o arrival plans side came finds opens = ap (λ (w : World). plan w k head) (same_world side) ∙ plans side came finds opens

@@ -4,7 +4,8 @@ use Rattle.lt_world.specs.declared.net.Ending.{Ending}
 use Rattle.lt_world.specs.declared.net.Ending.TheVariants as ending
 use Rattle.lt_world.specs.Disk.{Disk}
 use Rattle.lt_world.specs.Trace.{Entry, Reading, Read, ReadEnd, NotYet, Failed}
-use Rattle.server_model.specs.Plan.{world_of}
+use Rattle.server_model.specs.Site.{Site}
+use Rattle.server_model.specs.World.{world_of}
 use Rattle.server_model.specs.Deeds.{Ours, ours, told}
 use Rattle.server_model.specs.Held.{Held}
 use Rattle.server_model.specs.Steps.{received, received_end, wants_read}
@@ -19,47 +20,47 @@ use Rattle.server_model.proofs.Standing.{wants_reads, matches_right, stands_want
 use Rattle.server_model.proofs.Stepping.{step_none, step_stops, then_step}
 use Rattle.server_model.proofs.Going.{then_settles}
 
-module _ (root : List ℕ) (held : Held) (net files : Type 0) (before : Disk) where
+module _ (site : Site) (held : Held) (net files : Type 0) (before : Disk) where
   -- no read is wanted
-  pub read_idle : (old : List Entry) → wants_read held ≡ false → (files → Fits before.table held) → StepsBy Stands DueRead root held (Some held) net files before before old old
-  read_idle old isnt fits = step_none Stands DueRead root held net files before old old fits (λ f past s. (s, DueRead.idle (stands_wants before.table (world_of root before held.link) held (ours past) s ∙ isnt)))
+  pub read_idle : (old : List Entry) → wants_read held ≡ false → (files → Fits before.table held) → StepsBy Stands DueRead site held (Some held) net files before before old old
+  read_idle old isnt fits = step_none Stands DueRead site held net files before old old fits (λ f past s. (s, DueRead.idle (stands_wants before.table (world_of site before held.link past) held (ours past) s ∙ isnt)))
 
   module _ (old now : List Entry) (is : wants_read held ≡ true) where
-    pub read_not_yet : (net → now ≡ told held.link (Ours (NotYet Reading) ∷ []) old) → (files → Fits before.table held) → StepsBy Stands DueRead root held (Some held) net files before before old now
-    read_not_yet gains fits = then_step Stands Stands DueRead (DueSettles false) root held held (Some held) net files before before before old now now (Ours (NotYet Reading) ∷ []) (refl, tt) gains (λ trace. refl) (λ f. same_files held.link before held.file) refl
-        (λ f past s. stands_not_yet before.table (world_of root before held.link) held (ours past) Reading s)
-        (λ f past all s settles. DueRead.reads (NotYet Reading) (stands_wants before.table (world_of root before held.link) held (ours past) s ∙ is) tt settles)
-        (step_none Stands (DueSettles false) root held net files before now now fits (λ f past s. (s, Settles.rests (stands_rests before.table (world_of root before held.link) held past s))))
+    pub read_not_yet : (net → now ≡ told held.link (Ours (NotYet Reading) ∷ []) old) → (files → Fits before.table held) → StepsBy Stands DueRead site held (Some held) net files before before old now
+    read_not_yet gains fits = then_step Stands Stands DueRead (DueSettles false) site held held (Some held) net files before before before old now now (Ours (NotYet Reading) ∷ []) (refl, tt) gains (λ trace. refl) (λ f. same_files held.link before held.file) refl
+        (λ f past s. stands_not_yet before.table (world_of site before held.link past) held (ours past) Reading s)
+        (λ f past all s settles. DueRead.reads (NotYet Reading) (stands_wants before.table (world_of site before held.link past) held (ours past) s ∙ is) tt settles)
+        (step_none Stands (DueSettles false) site held net files before now now fits (λ f past s. (s, Settles.rests (stands_rests before.table (world_of site before held.link past) held past s))))
 
-    pub read_failed : (net → now ≡ told held.link (Ours (Failed Reading) ∷ []) old) → StopsBy Stands DueRead root held held ending.ClientFault net files before before old now
-    read_failed gains = step_stops Stands DueRead root held net files before old now ending.ClientFault held (Ours (Failed Reading) ∷ []) (refl, tt) gains (λ trace. refl) refl refl
+    pub read_failed : (net → now ≡ told held.link (Ours (Failed Reading) ∷ []) old) → StopsBy Stands DueRead site held held ending.ClientFault net files before before old now
+    read_failed gains = step_stops Stands DueRead site held net files before old now ending.ClientFault held (Ours (Failed Reading) ∷ []) (refl, tt) gains (λ trace. refl) refl refl
         (λ f past s. (
-          fails_right (world_of root before held.link) (ours past) Reading (matches_right before.table (world_of root before held.link) held (ours past) s.matches),
+          fails_right (world_of site before held.link past) (ours past) Reading (matches_right before.table (world_of site before held.link past) held (ours past) s.matches),
           (λ e. absurd (cc (e))),
-          DueRead.reads (Failed Reading) (stands_wants before.table (world_of root before held.link) held (ours past) s ∙ is) tt (Settles.fails refl),
+          DueRead.reads (Failed Reading) (stands_wants before.table (world_of site before held.link past) held (ours past) s ∙ is) tt (Settles.fails refl),
         ))
 
     -- memory is wanted for what came
-    pub read_yields : (new : Held) (bytes : List ℕ) → (net → now ≡ told held.link (Ours (Read bytes) ∷ []) old) → new.link ≡ held.link → new.file ≡ held.file → StopsBy Stands DueRead root held new ending.NoMemory net files before before old now
-    read_yields new bytes gains link file = step_stops Stands DueRead root held net files before old now ending.NoMemory new (Ours (Read bytes) ∷ []) (refl, tt) gains (λ trace. refl) link file
+    pub read_yields : (new : Held) (bytes : List ℕ) → (net → now ≡ told held.link (Ours (Read bytes) ∷ []) old) → new.link ≡ held.link → new.file ≡ held.file → StopsBy Stands DueRead site held new ending.NoMemory net files before before old now
+    read_yields new bytes gains link file = step_stops Stands DueRead site held net files before old now ending.NoMemory new (Ours (Read bytes) ∷ []) (refl, tt) gains (λ trace. refl) link file
         (λ f past s. (
-          matches_right before.table (world_of root before held.link) (received held bytes) (Read bytes ∷ ours past) (matches_received before.table (world_of root before held.link) held (ours past) bytes (wants_reads held is) s),
+          matches_right before.table (world_of site before held.link past) (received held bytes) (Read bytes ∷ ours past) (matches_received before.table (world_of site before held.link past) held (ours past) bytes (wants_reads held is) s),
           (λ e. absurd (cc (e))),
-          DueRead.reads (Read bytes) (stands_wants before.table (world_of root before held.link) held (ours past) s ∙ is) tt (Settles.yields refl),
+          DueRead.reads (Read bytes) (stands_wants before.table (world_of site before held.link past) held (ours past) s ∙ is) tt (Settles.yields refl),
         ))
 
     -- bytes came, and then what follows
     pub read_then : (after : Disk) (new : Held) (result : Option Ending) (bytes : List ℕ) → (net → now ≡ told held.link (Ours (Read bytes) ∷ []) old)
-        → SettlesTo true root (received held bytes) new result files before after → GoesBy Stands DueRead root held new result net files before after old now
-    read_then after new result bytes gains settles = then_settles Stands DueRead true root held (received held bytes) new net files before after old now (Ours (Read bytes) ∷ []) (refl, tt) gains (λ trace. refl) refl refl
-        (λ f past s. matches_received before.table (world_of root before held.link) held (ours past) bytes (wants_reads held is) s)
-        (λ f past all s settles. DueRead.reads (Read bytes) (stands_wants before.table (world_of root before held.link) held (ours past) s ∙ is) tt settles)
+        → SettlesTo true site (received held bytes) new result files before after → GoesBy Stands DueRead site held new result net files before after old now
+    read_then after new result bytes gains settles = then_settles Stands DueRead true site held (received held bytes) new net files before after old now (Ours (Read bytes) ∷ []) (refl, tt) gains (λ trace. refl) refl refl
+        (λ f past s. matches_received before.table (world_of site before held.link past) held (ours past) bytes (wants_reads held is) s)
+        (λ f past all s settles. DueRead.reads (Read bytes) (stands_wants before.table (world_of site before held.link past) held (ours past) s ∙ is) tt settles)
         result settles
 
     -- the end came, and then what follows
     pub read_end_then : (after : Disk) (new : Held) (result : Option Ending) → (net → now ≡ told held.link (Ours ReadEnd ∷ []) old)
-        → SettlesTo true root (received_end held) new result files before after → GoesBy Stands DueRead root held new result net files before after old now
-    read_end_then after new result gains settles = then_settles Stands DueRead true root held (received_end held) new net files before after old now (Ours ReadEnd ∷ []) (refl, tt) gains (λ trace. refl) refl refl
-        (λ f past s. matches_end before.table (world_of root before held.link) held (ours past) (wants_reads held is) s)
-        (λ f past all s settles. DueRead.reads ReadEnd (stands_wants before.table (world_of root before held.link) held (ours past) s ∙ is) tt settles)
+        → SettlesTo true site (received_end held) new result files before after → GoesBy Stands DueRead site held new result net files before after old now
+    read_end_then after new result gains settles = then_settles Stands DueRead true site held (received_end held) new net files before after old now (Ours ReadEnd ∷ []) (refl, tt) gains (λ trace. refl) refl refl
+        (λ f past s. matches_end before.table (world_of site before held.link past) held (ours past) (wants_reads held is) s)
+        (λ f past all s settles. DueRead.reads ReadEnd (stands_wants before.table (world_of site before held.link past) held (ours past) s ∙ is) tt settles)
         result settles

@@ -1,6 +1,6 @@
 -- Where k replies were passed: the reply that is next, and what is known of the stream, the place and the bytes from there on.
 use Rattle.std.proofs.Common.{◌≡◌, ℕ, zero, suc, ◌+◌, ◌-◌, ◌<◌, ◌≤◌, List, [], ◌∷◌, ◌++◌, length, drop, true, false, ◌&&◌, nat_le, if◌then◌else◌, refl, sym, ◌∙◌, ap, subst, arith, add-one, append_assoc, length-append}
-use Rattle.std.specs.Prelude.{Result, Ok, Err}
+use Rattle.std.specs.Prelude.{Some, None, Result, Ok, Err}
 use Rattle.std.proofs.lemmas.Bool.{false≢true}
 use Rattle.std.proofs.lemmas.Bool.Decides.{nat_tests}
 use Rattle.std.proofs.lemmas.List.{append-nil}
@@ -9,25 +9,27 @@ use Rattle.lt_http_body.specs.declared.body.BodyState.TheVariants as body
 use Rattle.lt_http_body.specs.declared.body.BodyRefusal.{BodyRefusal}
 use Rattle.lt_http_body.specs.Standings.{answer_from}
 use Rattle.lt_http_body.specs.Reading.{standing_after, data_in}
-use Rattle.server_model.specs.Request.{Head, Request, Unfinished, Refused, Open, Declined, Complete, bodied, begin_of, headed, request_of, rest_of, is_complete, requests_within}
-use Rattle.server_model.specs.Plan.{World, plan, is_head}
-use Rattle.server_model.specs.Reply.{Growing, Reply, error_bytes, continue_of, final_bytes, is_last_request, reply, replies}
+use Rattle.server_model.specs.Settings.{settings_of, limit_for, is_last_request}
+use Rattle.server_model.specs.Request.{Head, Request, Unfinished, Refused, Open, Declined, Complete, bodied, begin_of, headed, request_of, rest_of, is_complete, Limits, requests_within}
+use Rattle.server_model.specs.World.{World}
+use Rattle.server_model.specs.Plan.{plan, is_head}
+use Rattle.server_model.specs.Reply.{Growing, Reply, refusal_bytes, continue_of, final_bytes, reply, replies}
 use Rattle.server_model.specs.Stream.{is_followed, joined, final, place, Passed, reply_at, left_after, replies_to, stream_of}
 use Rattle.server_model.specs.Serves.{told_first}
 use Rattle.server_model.proofs.Requests.{complete_grows, rest_grows, rest_shorter}
 
-abbrev pub next_request : List ℕ → ℕ → Request
-next_request input k = request_of (left_after k input)
+abbrev pub next_request : Limits → List ℕ → ℕ → Request
+next_request limits input k = request_of limits (left_after limits k input)
 
 abbrev pub next_reply : World → List ℕ → ℕ → Reply
-next_reply world input k = reply world k (next_request input k)
+next_reply world input k = reply world k (next_request (limit_for world) input k)
 
-left_suc : (k : ℕ) (bytes : List ℕ) → left_after (suc k) bytes ≡ rest_of (left_after k bytes)
-left_suc zero bytes = refl
-left_suc (suc k) bytes = left_suc k (rest_of bytes)
+left_suc : (limits : Limits) (k : ℕ) (bytes : List ℕ) → left_after limits (suc k) bytes ≡ rest_of limits (left_after limits k bytes)
+left_suc limits zero bytes = refl
+left_suc limits (suc k) bytes = left_suc limits k (rest_of limits bytes)
 
-pub left_next : (k : ℕ) (bytes : List ℕ) → left_after (k + 1) bytes ≡ rest_of (left_after k bytes)
-left_next k bytes = ap (λ (n : ℕ). left_after n bytes) (add-one k) ∙ left_suc k bytes
+pub left_next : (limits : Limits) (k : ℕ) (bytes : List ℕ) → left_after limits (k + 1) bytes ≡ rest_of limits (left_after limits k bytes)
+left_next limits k bytes = ap (λ (n : ℕ). left_after limits n bytes) (add-one k) ∙ left_suc limits k bytes
 
 -- only a complete request has a reply that is followed
 pub followed_complete : (world : World) (k : ℕ) (r : Request) → is_followed (reply world k r) ≡ true → is_complete r ≡ true
@@ -72,29 +74,29 @@ incomplete_alone world k (Complete head content) is = absurd (false≢true (sym 
 -- ---- what is told first
 
 -- each reply begins with it
-pub told_begins : (world : World) (k : ℕ) (r : Request) → (rest : List ℕ) × ((reply world k r).bytes ≡ told_first r ++ rest)
+pub told_begins : (world : World) (k : ℕ) (r : Request) → (rest : List ℕ) × ((reply world k r).bytes ≡ told_first (limit_for world) r ++ rest)
 told_begins world k Unfinished = ([], refl)
-told_begins world k (Refused status) = (error_bytes 1 status true false, refl)
-told_begins world k (Open head) = ([], sym (append-nil (continue_of head)))
-told_begins world k (Declined status head) = (error_bytes head.minor status true (is_head head.method), refl)
-told_begins world k (Complete head content) = (final_bytes head (is_last_request k head) (plan world k head), refl)
+told_begins world k (Refused status) = (refusal_bytes (settings_of world None) 1 status false, refl)
+told_begins world k (Open head) = ([], sym (append-nil (continue_of (limit_for world) head)))
+told_begins world k (Declined status head) = (refusal_bytes (settings_of world (Some head)) head.minor status (is_head head.method), refl)
+told_begins world k (Complete head content) = let o = plan world k head in (final_bytes head (is_last_request o.settings.request_limit k head) o, refl)
 
-pub told_open : (world : World) (k : ℕ) (head : Head) → (reply world k (Open head)).bytes ≡ told_first (Open head)
+pub told_open : (world : World) (k : ℕ) (head : Head) → (reply world k (Open head)).bytes ≡ told_first (limit_for world) (Open head)
 told_open world k head = refl
 
 -- whatever is behind the head
-pub told_headed : (head : Head) (bytes : List ℕ) → told_first (headed head bytes) ≡ continue_of head
-told_headed head bytes = by (answer_from (standing_after (begin_of head) bytes).state) (data_in (begin_of head) bytes)
+pub told_headed : (limits : Limits) (head : Head) (bytes : List ℕ) → told_first limits (headed limits head bytes) ≡ continue_of limits head
+told_headed limits head bytes = by (answer_from (standing_after (begin_of limits head) bytes).state) (data_in (begin_of limits head) bytes)
   where
-    by : (a : Result BodyState BodyRefusal) (content : List ℕ) → told_first (bodied head a content) ≡ continue_of head
+    by : (a : Result BodyState BodyRefusal) (content : List ℕ) → told_first limits (bodied head a content) ≡ continue_of limits head
     by (Ok body.NeedMore) content = refl
     by (Ok body.Done) content = refl
     by (Err e) content = refl
 
-pub headed_begins : (world : World) (k : ℕ) (head : Head) (bytes : List ℕ) → (rest : List ℕ) × ((reply world k (headed head bytes)).bytes ≡ continue_of head ++ rest)
+pub headed_begins : (world : World) (k : ℕ) (head : Head) (bytes : List ℕ) → (rest : List ℕ) × ((reply world k (headed (limit_for world) head bytes)).bytes ≡ continue_of (limit_for world) head ++ rest)
 headed_begins world k head bytes =
-    let t = told_begins world k (headed head bytes) in
-    (t.0, t.1 ∙ ap (λ l. l ++ t.0) (told_headed head bytes))
+    let t = told_begins world k (headed (limit_for world) head bytes) in
+    (t.0, t.1 ∙ ap (λ l. l ++ t.0) (told_headed (limit_for world) head bytes))
 
 -- ---- replies alone
 
@@ -150,79 +152,88 @@ unique_passed (suc k) (r ∷ rs) a b one two = one.1.1 ∙ ap (λ l. r.bytes ++ 
 -- the first k requests are complete, the first of which has number j, and their replies joined are these bytes
 abbrev pub Answered : World → ℕ → ℕ → List ℕ → List ℕ → Type 0
 Answered world j zero bytes before = before ≡ []
-Answered world j (suc k) bytes before = (is_followed (reply world j (request_of bytes)) ≡ true) × ((rest : List ℕ) × (before ≡ (reply world j (request_of bytes)).bytes ++ rest) × Answered world (j + 1) k (rest_of bytes) rest)
+Answered world j (suc k) bytes before = (is_followed (reply world j (request_of (limit_for world) bytes)) ≡ true) × ((rest : List ℕ) × (before ≡ (reply world j (request_of (limit_for world) bytes)).bytes ++ rest) × Answered world (j + 1) k (rest_of (limit_for world) bytes) rest)
 
 module _ (world : World) where
   -- what comes after a reply that is followed
-  pub following : (j : ℕ) (fuel bytes : List ℕ) → is_followed (reply world j (request_of bytes)) ≡ true
-      → replies world (j + 1) (if is_complete (request_of bytes) then requests_within fuel (rest_of bytes) else []) ≡ replies world (j + 1) (requests_within fuel (rest_of bytes))
-  following j fuel bytes is = ap (λ t. replies world (j + 1) (if t then requests_within fuel (rest_of bytes) else [])) (followed_complete world j (request_of bytes) is)
+  pub following : (j : ℕ) (fuel bytes : List ℕ) → is_followed (reply world j (request_of (limit_for world) bytes)) ≡ true
+      → replies world (j + 1) (if is_complete (request_of (limit_for world) bytes) then requests_within (limit_for world) fuel (rest_of (limit_for world) bytes) else []) ≡ replies world (j + 1) (requests_within (limit_for world) fuel (rest_of (limit_for world) bytes))
+  following j fuel bytes is = ap (λ t. replies world (j + 1) (if t then requests_within (limit_for world) fuel (rest_of (limit_for world) bytes) else [])) (followed_complete world j (request_of (limit_for world) bytes) is)
 
   -- then the next has less
-  pub lasts : (j : ℕ) (bytes : List ℕ) → is_followed (reply world j (request_of bytes)) ≡ true → length (rest_of bytes) < length bytes
-  lasts j bytes is = rest_shorter bytes (followed_complete world j (request_of bytes) is)
+  pub lasts : (j : ℕ) (bytes : List ℕ) → is_followed (reply world j (request_of (limit_for world) bytes)) ≡ true → length (rest_of (limit_for world) bytes) < length bytes
+  lasts j bytes is = rest_shorter (limit_for world) bytes (followed_complete world j (request_of (limit_for world) bytes) is)
 
   -- the list of requests is long enough, so what stands there is by bytes alone
-  answered : (k j : ℕ) (fuel bytes before : List ℕ) → length bytes ≤ length fuel → Passed k (replies world j (requests_within fuel bytes)) before → Answered world j k bytes before
+  answered : (k j : ℕ) (fuel bytes before : List ℕ) → length bytes ≤ length fuel → Passed k (replies world j (requests_within (limit_for world) fuel bytes)) before → Answered world j k bytes before
   answered zero j fuel bytes before enough passed = passed
   answered (suc k) j [] bytes before enough passed = absurd (omega (arith, enough, lasts j bytes passed.0))
   answered (suc k) j (b ∷ fuel) bytes before enough passed =
-      (passed.0, (passed.1.0, passed.1.1, answered k (j + 1) fuel (rest_of bytes) passed.1.0 (omega (arith, enough, lasts j bytes passed.0)) (subst (λ (rs : List Reply). Passed k rs passed.1.0) (following j fuel bytes passed.0) passed.1.2)))
+      (passed.0, (passed.1.0, passed.1.1, answered k (j + 1) fuel (rest_of (limit_for world) bytes) passed.1.0 (omega (arith, enough, lasts j bytes passed.0)) (subst (λ (rs : List Reply). Passed k rs passed.1.0) (following j fuel bytes passed.0) passed.1.2)))
 
-  passes : (k j : ℕ) (fuel bytes before : List ℕ) → length bytes ≤ length fuel → Answered world j k bytes before → Passed k (replies world j (requests_within fuel bytes)) before
+  passes : (k j : ℕ) (fuel bytes before : List ℕ) → length bytes ≤ length fuel → Answered world j k bytes before → Passed k (replies world j (requests_within (limit_for world) fuel bytes)) before
   passes zero j fuel bytes before enough is = is
   passes (suc k) j [] bytes before enough is = absurd (omega (arith, enough, lasts j bytes is.0))
   passes (suc k) j (b ∷ fuel) bytes before enough is =
-      (is.0, (is.1.0, is.1.1, subst (λ (rs : List Reply). Passed k rs is.1.0) (sym (following j fuel bytes is.0)) (passes k (j + 1) fuel (rest_of bytes) is.1.0 (omega (arith, enough, lasts j bytes is.0)) is.1.2)))
+      (is.0, (is.1.0, is.1.1, subst (λ (rs : List Reply). Passed k rs is.1.0) (sym (following j fuel bytes is.0)) (passes k (j + 1) fuel (rest_of (limit_for world) bytes) is.1.0 (omega (arith, enough, lasts j bytes is.0)) is.1.2)))
 
   -- the replies from k on
   reached : (k j m : ℕ) (fuel bytes before : List ℕ) → length bytes ≤ length fuel → j + k ≡ m → Answered world j k bytes before
-      → (rest : List Reply) × (drop k (replies world j (requests_within fuel bytes)) ≡ reply world m (request_of (left_after k bytes)) ∷ rest)
-  reached zero j m [] bytes before enough count is = let same : j ≡ m = omega (arith, count) in ([], ap (λ (n : ℕ). reply world n (request_of bytes) ∷ []) same)
+      → (rest : List Reply) × (drop k (replies world j (requests_within (limit_for world) fuel bytes)) ≡ reply world m (request_of (limit_for world) (left_after (limit_for world) k bytes)) ∷ rest)
+  reached zero j m [] bytes before enough count is = let same : j ≡ m = omega (arith, count) in ([], ap (λ (n : ℕ). reply world n (request_of (limit_for world) bytes) ∷ []) same)
   reached zero j m (b ∷ fuel) bytes before enough count is =
       let same : j ≡ m = omega (arith, count) in
-      (replies world (j + 1) (if is_complete (request_of bytes) then requests_within fuel (rest_of bytes) else []), ap (λ (n : ℕ). reply world n (request_of bytes) ∷ replies world (j + 1) (if is_complete (request_of bytes) then requests_within fuel (rest_of bytes) else [])) same)
+      (replies world (j + 1) (if is_complete (request_of (limit_for world) bytes) then requests_within (limit_for world) fuel (rest_of (limit_for world) bytes) else []), ap (λ (n : ℕ). reply world n (request_of (limit_for world) bytes) ∷ replies world (j + 1) (if is_complete (request_of (limit_for world) bytes) then requests_within (limit_for world) fuel (rest_of (limit_for world) bytes) else [])) same)
   reached (suc k) j m [] bytes before enough count is = absurd (omega (arith, enough, lasts j bytes is.0))
   reached (suc k) j m (b ∷ fuel) bytes before enough count is =
-      let next = reached k (j + 1) m fuel (rest_of bytes) is.1.0 (omega (arith, enough, lasts j bytes is.0)) (omega (arith, count)) is.1.2 in
+      let next = reached k (j + 1) m fuel (rest_of (limit_for world) bytes) is.1.0 (omega (arith, enough, lasts j bytes is.0)) (omega (arith, count)) is.1.2 in
       (next.0, ap (drop k) (following j fuel bytes is.0) ∙ next.1)
 
-  complete_at : (k j i : ℕ) (bytes before : List ℕ) → Answered world j k bytes before → i < k → is_complete (request_of (left_after i bytes)) ≡ true
+  complete_at : (k j i : ℕ) (bytes before : List ℕ) → Answered world j k bytes before → i < k → is_complete (request_of (limit_for world) (left_after (limit_for world) i bytes)) ≡ true
   complete_at zero j i bytes before is below = absurd (omega (arith, below))
-  complete_at (suc k) j zero bytes before is below = followed_complete world j (request_of bytes) is.0
-  complete_at (suc k) j (suc i) bytes before is below = complete_at k (j + 1) i (rest_of bytes) is.1.0 is.1.2 (omega (arith, below))
+  complete_at (suc k) j zero bytes before is below = followed_complete world j (request_of (limit_for world) bytes) is.0
+  complete_at (suc k) j (suc i) bytes before is below = complete_at k (j + 1) i (rest_of (limit_for world) bytes) is.1.0 is.1.2 (omega (arith, below))
+
+  followed_at : (k j i m : ℕ) (bytes before : List ℕ) → j + i ≡ m → Answered world j k bytes before → i < k → is_followed (reply world m (request_of (limit_for world) (left_after (limit_for world) i bytes))) ≡ true
+  followed_at zero j i m bytes before count is below = absurd (omega (arith, below))
+  followed_at (suc k) j zero m bytes before count is below =
+      let same : j ≡ m = omega (arith, count) in
+      ap (λ (n : ℕ). is_followed (reply world n (request_of (limit_for world) bytes))) (sym same) ∙ is.0
+  followed_at (suc k) j (suc i) m bytes before count is below = followed_at k (j + 1) i m (rest_of (limit_for world) bytes) is.1.0 (omega (arith, count)) is.1.2 (omega (arith, below))
 
   -- further bytes
-  request_grows : (bytes more : List ℕ) (r : Request) → request_of bytes ≡ r → is_complete r ≡ true → request_of (bytes ++ more) ≡ request_of bytes
+  request_grows : (bytes more : List ℕ) (r : Request) → request_of (limit_for world) bytes ≡ r → is_complete r ≡ true → request_of (limit_for world) (bytes ++ more) ≡ request_of (limit_for world) bytes
   request_grows bytes more Unfinished at is = absurd (false≢true is)
   request_grows bytes more (Refused status) at is = absurd (false≢true is)
   request_grows bytes more (Open head) at is = absurd (false≢true is)
   request_grows bytes more (Declined status head) at is = absurd (false≢true is)
-  request_grows bytes more (Complete head content) at is = complete_grows bytes more head content at ∙ sym at
+  request_grows bytes more (Complete head content) at is = complete_grows (limit_for world) bytes more head content at ∙ sym at
 
   answered_grows : (k j : ℕ) (bytes more before : List ℕ) → Answered world j k bytes before → Answered world j k (bytes ++ more) before
   answered_grows zero j bytes more before is = is
   answered_grows (suc k) j bytes more before is =
-      let complete : is_complete (request_of bytes) ≡ true = followed_complete world j (request_of bytes) is.0 in
-      let same : reply world j (request_of (bytes ++ more)) ≡ reply world j (request_of bytes) = ap (reply world j) (request_grows bytes more (request_of bytes) refl complete) in (
+      let complete : is_complete (request_of (limit_for world) bytes) ≡ true = followed_complete world j (request_of (limit_for world) bytes) is.0 in
+      let same : reply world j (request_of (limit_for world) (bytes ++ more)) ≡ reply world j (request_of (limit_for world) bytes) = ap (reply world j) (request_grows bytes more (request_of (limit_for world) bytes) refl complete) in (
         ap is_followed same ∙ is.0,
         (
           is.1.0,
           is.1.1 ∙ ap (λ (r : Reply). r.bytes ++ is.1.0) (sym same),
-          subst (λ l. Answered world (j + 1) k l is.1.0) (sym (rest_grows bytes more complete)) (answered_grows k (j + 1) (rest_of bytes) more is.1.0 is.1.2),
+          subst (λ l. Answered world (j + 1) k l is.1.0) (sym (rest_grows (limit_for world) bytes more complete)) (answered_grows k (j + 1) (rest_of (limit_for world) bytes) more is.1.0 is.1.2),
         ),
       )
 
-  left_more : (k j : ℕ) (bytes more before : List ℕ) → Answered world j k bytes before → left_after k (bytes ++ more) ≡ left_after k bytes ++ more
+  left_more : (k j : ℕ) (bytes more before : List ℕ) → Answered world j k bytes before → left_after (limit_for world) k (bytes ++ more) ≡ left_after (limit_for world) k bytes ++ more
   left_more zero j bytes more before is = refl
   left_more (suc k) j bytes more before is =
-      ap (left_after k) (rest_grows bytes more (followed_complete world j (request_of bytes) is.0)) ∙ left_more k (j + 1) (rest_of bytes) more is.1.0 is.1.2
+      ap (left_after (limit_for world) k) (rest_grows (limit_for world) bytes more (followed_complete world j (request_of (limit_for world) bytes) is.0)) ∙ left_more k (j + 1) (rest_of (limit_for world) bytes) more is.1.0 is.1.2
 
-  answered_world : (other : World) (k j m : ℕ) (bytes before : List ℕ) → j + k ≡ m → ((i : ℕ) (r : Request) → i < m → reply other i r ≡ reply world i r) → Answered world j k bytes before → Answered other j k bytes before
-  answered_world other zero j m bytes before count same is = is
-  answered_world other (suc k) j m bytes before count same is =
-      let here : reply other j (request_of bytes) ≡ reply world j (request_of bytes) = same j (request_of bytes) (omega (arith, count)) in
-      (ap is_followed here ∙ is.0, (is.1.0, is.1.1 ∙ ap (λ (r : Reply). r.bytes ++ is.1.0) (sym here), answered_world other k (j + 1) m (rest_of bytes) is.1.0 (omega (arith, count)) same is.1.2))
+  answered_world : (other : World) (k j m : ℕ) (bytes before : List ℕ) → j + k ≡ m → limit_for other ≡ limit_for world → ((i : ℕ) (r : Request) → i < m → reply other i r ≡ reply world i r) → Answered world j k bytes before → Answered other j k bytes before
+  answered_world other zero j m bytes before count limits same is = is
+  answered_world other (suc k) j m bytes before count limits same is =
+      let here : reply other j (request_of (limit_for other) bytes) ≡ reply world j (request_of (limit_for world) bytes) =
+      ap (λ (l : Limits). reply other j (request_of l bytes)) limits ∙ same j (request_of (limit_for world) bytes) (omega (arith, count)) in
+      let later : Answered other (j + 1) k (rest_of (limit_for world) bytes) is.1.0 = answered_world other k (j + 1) m (rest_of (limit_for world) bytes) is.1.0 (omega (arith, count)) limits same is.1.2 in
+      (ap is_followed here ∙ is.0, (is.1.0, is.1.1 ∙ ap (λ (r : Reply). r.bytes ++ is.1.0) (sym here), subst (λ (l : Limits). Answered other (j + 1) k (rest_of l bytes) is.1.0) (sym limits) later))
 
 -- ---- a client's replies
 
@@ -260,14 +271,17 @@ module _ (world : World) (input : List ℕ) (k : ℕ) (before : List ℕ) (passe
   pub passed_grows : (more : List ℕ) → Passed k (replies_to world (input ++ more)) before
   passed_grows more = passes world k 0 (input ++ more) (input ++ more) before (omega arith) (answered_grows world k 0 input more before by_bytes)
 
-  pub left_grows : (more : List ℕ) → left_after k (input ++ more) ≡ left_after k input ++ more
+  pub left_grows : (more : List ℕ) → left_after (limit_for world) k (input ++ more) ≡ left_after (limit_for world) k input ++ more
   left_grows more = left_more world k 0 input more before by_bytes
 
   -- another world in which the replies before k are the same
-  pub passed_world : (other : World) → ((j : ℕ) (r : Request) → j < k → reply other j r ≡ reply world j r) → Passed k (replies_to other input) before
-  passed_world other same = passes other k 0 input input before (omega arith) (answered_world world other k 0 k input before (omega arith) same by_bytes)
+  pub passed_world : (other : World) → limit_for other ≡ limit_for world → ((j : ℕ) (r : Request) → j < k → reply other j r ≡ reply world j r) → Passed k (replies_to other input) before
+  passed_world other limits same = passes other k 0 input input before (omega arith) (answered_world world other k 0 k input before (omega arith) limits same by_bytes)
 
-  pub passed_complete : (j : ℕ) → j < k → is_complete (next_request input j) ≡ true
+  pub passed_followed : (j : ℕ) → j < k → is_followed (next_reply world input j) ≡ true
+  passed_followed j below = followed_at world k 0 j j input before (omega arith) by_bytes below
+
+  pub passed_complete : (j : ℕ) → j < k → is_complete (next_request (limit_for world) input j) ≡ true
   passed_complete j below = complete_at world k 0 j input before by_bytes below
 
 pub passed_unique : (world : World) (input : List ℕ) (k : ℕ) (a b : List ℕ) → Passed k (replies_to world input) a → Passed k (replies_to world input) b → a ≡ b

@@ -8,8 +8,9 @@ use Rattle.http_reply.specs.Phrases.{phrase}
 use Rattle.lt_http_body.specs.declared.state.State.TheVariants as state
 use Rattle.lt_http_body.specs.Standings.{begin, step}
 use Rattle.lt_http_body.specs.Reading.{standing_after, data_in, taken_in}
-use Rattle.server_model.specs.Request.{Unfinished, Refused, front_of, request_of, body_limit}
-use Rattle.server_model.specs.Reply.{error_bytes, file_head, is_accepted}
+use Rattle.server_model.specs.Request.{Unfinished, Refused, front_of, request_of, Limits}
+use Rattle.server_model.specs.Reply.{error_bytes, content_head, is_accepted}
+use Rattle.server_model.specs.Plan.{error_fields, file_fields}
 
 abbrev line_end : List ℕ
 line_end = 13 ∷ 10 ∷ []
@@ -18,54 +19,54 @@ abbrev line : List ℕ → List ℕ
 line text = text ++ line_end
 
 -- a file of five bytes, to HTTP/1.1 on a connection that goes on: 101 bytes
-found : file_head 1 5 false ++ codes "hello"
+found : content_head (codes "lighttpd") 1 200 file_fields 5 false ++ codes "hello"
     ≡ line (codes "HTTP/1.1 200 OK") ++ line (codes "Content-Type: application/octet-stream") ++ line (codes "Content-Length: 5") ++ line (codes "Server: lighttpd") ++ line_end ++ codes "hello"
 unfolding phrase digits
 found = refl
 
-found_length : length (file_head 1 5 false ++ codes "hello") ≡ 101
+found_length : length (content_head (codes "lighttpd") 1 200 file_fields 5 false ++ codes "hello") ≡ 101
 unfolding phrase digits
 found_length = refl
 
 -- to HTTP/1.0, which goes no further: 120 bytes
-closed : file_head 0 5 true ++ codes "hello"
+closed : content_head (codes "lighttpd") 0 200 file_fields 5 true ++ codes "hello"
     ≡ line (codes "HTTP/1.0 200 OK") ++ line (codes "Content-Type: application/octet-stream") ++ line (codes "Content-Length: 5") ++ line (codes "Connection: close") ++ line (codes "Server: lighttpd") ++ line_end ++ codes "hello"
 unfolding phrase digits
 closed = refl
 
-closed_length : length (file_head 0 5 true ++ codes "hello") ≡ 120
+closed_length : length (content_head (codes "lighttpd") 0 200 file_fields 5 true ++ codes "hello") ≡ 120
 unfolding phrase digits
 closed_length = refl
 
 -- another method than GET and HEAD: 140 bytes
-not_allowed : error_bytes 1 405 false true
+not_allowed : error_bytes (codes "lighttpd") 1 405 (error_fields 405) false true
     ≡ line (codes "HTTP/1.1 405 Method Not Allowed") ++ line (codes "Allow: GET, HEAD") ++ line (codes "Content-Type: text/plain") ++ line (codes "Content-Length: 23") ++ line (codes "Server: lighttpd") ++ line_end
 unfolding phrase digits
 not_allowed = refl
 
-not_allowed_length : length (error_bytes 1 405 false false) ≡ 140
+not_allowed_length : length (error_bytes (codes "lighttpd") 1 405 (error_fields 405) false false) ≡ 140
 unfolding phrase digits
 not_allowed_length = refl
 
 -- a head that is refused: 127 bytes
-refused : error_bytes 1 400 true false
+refused : error_bytes (codes "lighttpd") 1 400 (error_fields 400) true false
     ≡ line (codes "HTTP/1.1 400 Bad Request") ++ line (codes "Content-Type: text/plain") ++ line (codes "Content-Length: 16") ++ line (codes "Connection: close") ++ line (codes "Server: lighttpd") ++ line_end ++ codes "400 Bad Request" ++ 10 ∷ []
 unfolding phrase digits
 refused = refl
 
-refused_length : length (error_bytes 1 400 true false) ≡ 127
+refused_length : length (error_bytes (codes "lighttpd") 1 400 (error_fields 400) true false) ≡ 127
 unfolding phrase digits
 refused_length = refl
 
 -- ---- what comes
 
-unfinished : request_of (line (codes "GET /a.txt HTTP/1.1") ++ line (codes "Host: h")) ≡ Unfinished
+unfinished : (limits : Limits) → request_of limits (line (codes "GET /a.txt HTTP/1.1") ++ line (codes "Host: h")) ≡ Unfinished
 unfolding request_of front_of
-unfinished = refl
+unfinished limits = refl
 
-other_version : request_of (line (codes "GET /a.txt HTTP/2.0") ++ line_end) ≡ Refused 505
+other_version : (limits : Limits) → request_of limits (line (codes "GET /a.txt HTTP/2.0") ++ line_end) ≡ Refused 505
 unfolding request_of front_of head_of
-other_version = refl
+other_version limits = refl
 
 -- ---- bodies
 
@@ -73,24 +74,24 @@ other_version = refl
 abbrev chunked : List ℕ
 chunked = line (codes "5") ++ line (codes "hello") ++ line (codes "0") ++ line_end
 
-chunked_data : data_in (begin framed.Chunked body_limit) (chunked ++ codes "GET") ≡ codes "hello"
+chunked_data : data_in (begin framed.Chunked 1048576) (chunked ++ codes "GET") ≡ codes "hello"
 unfolding step data_in
 chunked_data = refl
 
-chunked_taken : taken_in (begin framed.Chunked body_limit) (chunked ++ codes "GET") ≡ 15
+chunked_taken : taken_in (begin framed.Chunked 1048576) (chunked ++ codes "GET") ≡ 15
 unfolding step taken_in
 chunked_taken = refl
 
-chunked_over : (standing_after (begin framed.Chunked body_limit) (chunked ++ codes "GET")).state ≡ state.Whole
+chunked_over : (standing_after (begin framed.Chunked 1048576) (chunked ++ codes "GET")).state ≡ state.Whole
 unfolding step standing_after
 chunked_over = refl
 
 -- at the limit and above it
-accepted_at_limit : is_accepted (framed.Length 1048576) body_limit ≡ true
+accepted_at_limit : is_accepted (framed.Length 1048576) 1048576 ≡ true
 accepted_at_limit = refl
 
-accepted_no_further : is_accepted (framed.Length 1048577) body_limit ≡ false
+accepted_no_further : is_accepted (framed.Length 1048577) 1048576 ≡ false
 accepted_no_further = refl
 
-accepted_none : is_accepted (framed.Length 0) body_limit ≡ false
+accepted_none : is_accepted (framed.Length 0) 1048576 ≡ false
 accepted_none = refl

@@ -1,5 +1,6 @@
 -- A run, turn by turn.
-use Rattle.std.proofs.Common.{ℕ, List, ◌++◌, ◌∙◌, ap, arith, append_assoc}
+use Rattle.std.proofs.Common.{◌++◌, ◌∙◌, ap, arith, append_assoc}
+use Rattle.server_model.specs.Site.{Site}
 use Rattle.server_model.specs.Turns.{Seen, Grows}
 use Rattle.server_model.specs.Runs.{Told, IsRun, none, more}
 use Rattle.server_model.proofs.Turning.{grows_none}
@@ -11,6 +12,6 @@ grows_both a b c first second = record {
   faults = omega (arith, first.faults, second.faults);
 }
 
-pub run_grows : (root : List ℕ) (before after : Told) → IsRun root before after → Grows before.seen after.seen
-run_grows root before after none = grows_none before.seen
-run_grows root before after (more run turn) = grows_both before.seen _ after.seen (run_grows root before _ run) turn.grows
+pub run_grows : (site : Site) (before after : Told) → IsRun site before after → Grows before.seen after.seen
+run_grows site before after none = grows_none before.seen
+run_grows site before after (more run turn) = grows_both before.seen _ after.seen (run_grows site before _ run) turn.grows

@@ -11,8 +11,9 @@ use Rattle.lt_world.specs.Trace.{Act, Way, Accepted, Readable, Writable, Read, R
 use Rattle.lt_http_body.specs.declared.standing.Standing.{Standing}
 use Rattle.lt_http_body.specs.Standings.{is_over, answer_from}
 use Rattle.lt_http_body.specs.Reading.{data_in}
-use Rattle.server_model.specs.Request.{Head, Request, Unfinished, Open, bodied, begin_of, headed, request_of, rest_of, is_complete}
-use Rattle.server_model.specs.Plan.{World}
+use Rattle.server_model.specs.Settings.{limit_for}
+use Rattle.server_model.specs.Request.{Head, Request, NoHead, Open, front_of, bodied, begin_of, headed, request_of, rest_of, is_complete}
+use Rattle.server_model.specs.World.{World}
 use Rattle.server_model.specs.Reply.{Whole, Reply, no_reply, continue_of, reply}
 use Rattle.server_model.specs.Stream.{IsPrefix, is_whole, is_followed, joined, Place, place, remainder, reply_at, left_after, replies_to}
 use Rattle.server_model.specs.Deeds.{Deed, Ours, ours}
@@ -21,7 +22,7 @@ use Rattle.chunkqueue.specs.Items.{Item, bytes_of, item_byte}
 use Rattle.server_model.specs.Held.{Stage, Awaiting, Heading, Taking, Asking, Answering, Held}
 use Rattle.server_model.specs.Steps.{number_of, has_no_items, is_done_at, is_read_at}
 use Rattle.server_model.specs.Serves.{IsAwaiting, IsBegun, IsTaking, told_first, IsAnswering, IsAt, IsWaitingAt, IsGone, StandsFor}
-use Rattle.server_model.proofs.Requests.{open_more, front_headed, unfinished_short}
+use Rattle.server_model.proofs.Requests.{open_more, front_headed, nohead_short, nohead_unfinished}
 use Rattle.server_model.proofs.Replying.{next_request, next_reply, left_next, followed_complete, told_begins, headed_begins, passed_reply, passed_stream, passed_last, passed_final, passed_place}
 use Rattle.server_model.proofs.Calls.{and_false}
 use Rattle.server_model.proofs.Clients.{IsSettledAt}
@@ -68,16 +69,16 @@ room_left a b = elim (cases_lt b a) [
 
 module _ (opened : Table) (world : World) (held : Held) (acts : List Act) where
   -- no request is there, so no reply is
-  next_none : (k : ℕ) → IsAwaiting world held acts k → request_of held.input ≡ Unfinished → next_reply world (input_of acts) k ≡ no_reply
-  next_none k at is = ap (reply world k) (ap request_of (sym at.input) ∙ is)
+  next_none : (k : ℕ) → IsAwaiting world held acts k → front_of held.input ≡ NoHead → next_reply world (input_of acts) k ≡ no_reply
+  next_none k at is = ap (reply world k) (ap (request_of (limit_for world)) (sym at.input) ∙ nohead_unfinished (limit_for world) held.input is)
 
   -- a body isn't whole, so its request is open
-  open_now : (k : ℕ) (head : Head) (s : Standing) (content : List ℕ) → IsTaking opened world held acts k head s content → (held.input ≡ []) × (is_over s.state ≡ false) → next_request (input_of acts) k ≡ Open head
+  open_now : (k : ℕ) (head : Head) (s : Standing) (content : List ℕ) → IsTaking opened world held acts k head s content → (held.input ≡ []) × (is_over s.state ≡ false) → next_request (limit_for world) (input_of acts) k ≡ Open head
   open_now k head s content at waiting =
-      front_headed (left_after k (input_of acts)) head (at.read ++ held.input) at.front
-      ∙ ap (headed head) (ap (λ l. at.read ++ l) waiting.0 ∙ append-nil at.read)
-      ∙ ap (λ (t : Standing). bodied head (answer_from t.state) (data_in (begin_of head) at.read)) (sym at.stands)
-      ∙ ap (λ a. bodied head a (data_in (begin_of head) at.read)) (open_more s.state waiting.1)
+      front_headed (limit_for world) (left_after (limit_for world) k (input_of acts)) head (at.read ++ held.input) at.front
+      ∙ ap (headed (limit_for world) head) (ap (λ l. at.read ++ l) waiting.0 ∙ append-nil at.read)
+      ∙ ap (λ (t : Standing). bodied head (answer_from t.state) (data_in (begin_of (limit_for world) head) at.read)) (sym at.stands)
+      ∙ ap (λ a. bodied head a (data_in (begin_of (limit_for world) head) at.read)) (open_more s.state waiting.1)
 
   -- a reply that was given, as what was told
   abbrev answering_begun : (k : ℕ) (last : Bool) → IsAnswering opened world held acts k last → IsBegun opened world held acts k (next_reply world (input_of acts) k).bytes
@@ -135,10 +136,10 @@ module _ (opened : Table) (world : World) (held : Held) (acts : List Act) where
   at_prefix (Heading k head) at = let s = passed_stream world (input_of acts) k (output_of acts) at.passed in (joined (next_reply world (input_of acts) k ∷ s.0), sym s.1)
   at_prefix (Taking k head s content) at =
       let begins = headed_begins world k head (at.read ++ held.input) in
-      begun_prefix k (continue_of head) at.begun begins.0 (ap (λ (r : Request). (reply world k r).bytes) (front_headed (left_after k (input_of acts)) head (at.read ++ held.input) at.front) ∙ begins.1)
+      begun_prefix k (continue_of (limit_for world) head) at.begun begins.0 (ap (λ (r : Request). (reply world k r).bytes) (front_headed (limit_for world) (left_after (limit_for world) k (input_of acts)) head (at.read ++ held.input) at.front) ∙ begins.1)
   at_prefix (Asking k r) at =
       let begins = told_begins world k r in
-      begun_prefix k (told_first r) at.begun begins.0 (ap (λ (q : Request). (reply world k q).bytes) at.request ∙ begins.1)
+      begun_prefix k (told_first (limit_for world) r) at.begun begins.0 (ap (λ (q : Request). (reply world k q).bytes) at.request ∙ begins.1)
   at_prefix (Answering k last) at = begun_prefix k (next_reply world (input_of acts) k).bytes (answering_begun k last at) [] (sym (append-nil (next_reply world (input_of acts) k).bytes))
 
   -- all was taken, and nothing further can come
@@ -154,7 +155,7 @@ module _ (opened : Table) (world : World) (held : Held) (acts : List Act) where
       let now : next_reply world (input_of acts) k ≡ reply world k (Open head) = ap (reply world k) (open_now k head s content at settled) in
       let b = at.begun in
       record {
-        taken = b.output ∙ ap (λ l. b.before ++ l) (all_taken k (continue_of head) b none ∙ ap (λ (r : Reply). r.bytes) (sym now)) ∙ sym (passed_last world (input_of acts) k b.before b.passed (ap is_followed now));
+        taken = b.output ∙ ap (λ l. b.before ++ l) (all_taken k (continue_of (limit_for world) head) b none ∙ ap (λ (r : Reply). r.bytes) (sym now)) ∙ sym (passed_last world (input_of acts) k b.before b.passed (ap is_followed now));
         over = ap (λ (r : Reply). is_end r.extent r.last (has_ended acts)) (passed_final world (input_of acts) k b.before b.passed (ap is_followed now) ∙ now) ∙ sym ended ∙ done;
       }
   at_finished (Asking k r) at settled ended none done = absurd (cc (done))
@@ -187,7 +188,7 @@ module _ (opened : Table) (world : World) (held : Held) (acts : List Act) where
           let over : has_ended acts ≡ true = ap (λ (r : Reply). is_end r.extent r.last (has_ended acts)) (sym (passed_final world (input_of acts) k at.begun.before at.begun.passed (ap is_followed now) ∙ now)) ∙ f.over in
           let still : held.ended ≡ false = ap (λ b. b && held.ended) (sym none) ∙ undone in
           cc (still, ended, over)
-      by false some = begun_short k (continue_of head) at.begun [] (ap (λ (r : Reply). r.bytes) now ∙ sym (append-nil (continue_of head))) (some_items held.owed some) f.taken
+      by false some = begun_short k (continue_of (limit_for world) head) at.begun [] (ap (λ (r : Reply). r.bytes) now ∙ sym (append-nil (continue_of (limit_for world) head))) (some_items held.owed some) f.taken
   at_unfinished (Asking k r) at waiting ended undone f = absurd waiting
   at_unfinished (Answering k last) at waiting ended undone f =
       begun_short k (next_reply world (input_of acts) k).bytes (answering_begun k last at) [] (sym (append-nil (next_reply world (input_of acts) k).bytes)) (some_items held.owed waiting) f.taken
@@ -206,7 +207,7 @@ module _ (opened : Table) (world : World) (held : Held) (acts : List Act) where
   at_current (Heading k head) at waiting = absurd waiting
   at_current (Taking k head s content) at waiting =
       let now : next_reply world (input_of acts) k ≡ reply world k (Open head) = ap (reply world k) (open_now k head s content at waiting) in
-      begun_current k (continue_of head) at.begun (ap (λ (r : Reply). r.bytes) now) (ap (λ (r : Reply). is_followed r && nat_le (length r.bytes) (length at.begun.taken)) now)
+      begun_current k (continue_of (limit_for world) head) at.begun (ap (λ (r : Reply). r.bytes) now) (ap (λ (r : Reply). is_followed r && nat_le (length r.bytes) (length at.begun.taken)) now)
   at_current (Asking k r) at waiting = absurd waiting
   at_current (Answering k last) at waiting =
       let more : 0 < length held.owed = some_items held.owed waiting in
@@ -221,11 +222,11 @@ module _ (opened : Table) (world : World) (held : Held) (acts : List Act) where
   at_owed s at waiting = let c = at_current s at waiting in ap remainder c.1 ∙ c.2
 
   -- a read is wanted where what came leaves room
-  wants_by : (e l f : Bool) → is_open acts ≡ true → has_ended acts ≡ e → is_last (current world acts).reply ≡ l → is_full (unanswered world acts) ≡ f → wants world acts ≡ (not e && not l && not f)
+  wants_by : (e l f : Bool) → is_open acts ≡ true → has_ended acts ≡ e → is_last (current world acts).reply ≡ l → is_full (limit_for world) (unanswered world acts) ≡ f → wants world acts ≡ (not e && not l && not f)
   wants_by e l f open_is ended last full = (λ i. open_is i && not (ended i) && not (last i) && not (full i))
 
-  unanswered_at : (k : ℕ) → (current world acts).number ≡ k → unanswered world acts ≡ left_after k (input_of acts)
-  unanswered_at k is = ap (λ (n : ℕ). left_after n (input_of acts)) is
+  unanswered_at : (k : ℕ) → (current world acts).number ≡ k → unanswered world acts ≡ left_after (limit_for world) k (input_of acts)
+  unanswered_at k is = ap (λ (n : ℕ). left_after (limit_for world) n (input_of acts)) is
 
   pub at_wants : (s : Stage) → IsAt opened world held acts s → IsWaitingAt s held.input held.owed → held.ended ≡ has_ended acts → is_open acts ≡ true
       → wants world acts ≡ nat_lt 0 (if is_read_at s && not held.ended then input_limit - length held.input else 0)
@@ -237,19 +238,19 @@ module _ (opened : Table) (world : World) (held : Held) (acts : List Act) where
       last : is_last (current world acts).reply ≡ false
       last = ap (λ (p : Place). is_last p.reply) c.1 ∙ ap is_last (next_none k at waiting)
 
-      full : is_full (unanswered world acts) ≡ false
-      full = ap is_full (unanswered_at k (ap (λ (p : Place). p.number) c.1) ∙ sym at.input) ∙ ap (λ r. is_complete r && nat_le input_limit (length (rest_of held.input))) waiting
+      full : is_full (limit_for world) (unanswered world acts) ≡ false
+      full = ap (is_full (limit_for world)) (unanswered_at k (ap (λ (p : Place). p.number) c.1) ∙ sym at.input) ∙ ap (λ r. is_complete r && nat_le input_limit (length (rest_of (limit_for world) held.input))) (nohead_unfinished (limit_for world) held.input waiting)
 
       by : (e : Bool) → held.ended ≡ e → wants world acts ≡ nat_lt 0 (if not held.ended then input_limit - length held.input else 0)
       by true is = wants_by true false false open_is (sym ended ∙ is) last full ∙ sym (ap (λ e. nat_lt 0 (if not e then input_limit - length held.input else 0)) is)
       by false is =
-          let short = unfinished_short held.input waiting in
+          let short = nohead_short held.input waiting in
           let room : nat_lt 0 (input_limit - length held.input) ≡ true = grind (arith, nat_tests, short) in
           wants_by false false false open_is (sym ended ∙ is) last full ∙ sym (ap (λ e. nat_lt 0 (if not e then input_limit - length held.input else 0)) is ∙ room)
   at_wants (Heading k head) at waiting ended open_is = absurd waiting
   at_wants (Taking k head s content) at waiting ended open_is = by held.ended refl
     where
-      now : next_request (input_of acts) k ≡ Open head
+      now : next_request (limit_for world) (input_of acts) k ≡ Open head
       now = open_now k head s content at waiting
 
       c : (t : ℕ) × (current world acts ≡ record { number = k; reply = next_reply world (input_of acts) k; taken = t }) × (drop t (next_reply world (input_of acts) k).bytes ≡ bytes_of opened held.owed)
@@ -258,8 +259,8 @@ module _ (opened : Table) (world : World) (held : Held) (acts : List Act) where
       last : is_last (current world acts).reply ≡ false
       last = ap (λ (p : Place). is_last p.reply) c.1 ∙ ap (λ (r : Request). is_last (reply world k r)) now
 
-      full : is_full (unanswered world acts) ≡ false
-      full = ap is_full (unanswered_at k (ap (λ (p : Place). p.number) c.1)) ∙ ap (λ r. is_complete r && nat_le input_limit (length (rest_of (left_after k (input_of acts))))) now
+      full : is_full (limit_for world) (unanswered world acts) ≡ false
+      full = ap (is_full (limit_for world)) (unanswered_at k (ap (λ (p : Place). p.number) c.1)) ∙ ap (λ r. is_complete r && nat_le input_limit (length (rest_of (limit_for world) (left_after (limit_for world) k (input_of acts))))) now
 
       by : (e : Bool) → held.ended ≡ e → wants world acts ≡ nat_lt 0 (if not held.ended then input_limit - length held.input else 0)
       by true is = wants_by true false false open_is (sym ended ∙ is) last full ∙ sym (ap (λ e. nat_lt 0 (if not e then input_limit - length held.input else 0)) is)
@@ -284,20 +285,20 @@ module _ (opened : Table) (world : World) (held : Held) (acts : List Act) where
       lasts : is_last (current world acts).reply ≡ last
       lasts = ap (λ (p : Place). is_last p.reply) c.1 ∙ (λ i. is_whole (whole i) && last_is i)
 
-      full : last ≡ false → is_full (unanswered world acts) ≡ nat_le input_limit (length held.input)
+      full : last ≡ false → is_full (limit_for world) (unanswered world acts) ≡ nat_le input_limit (length held.input)
       full followed =
-          let complete : is_complete (next_request (input_of acts) k) ≡ true = followed_complete world k (next_request (input_of acts) k) (followed_by (next_reply world (input_of acts) k) whole (last_is ∙ followed)) in
-          ap is_full (unanswered_at k (ap (λ (p : Place). p.number) c.1))
-          ∙ ap (λ b. b && nat_le input_limit (length (rest_of (left_after k (input_of acts))))) complete
-          ∙ ap (λ (l : List ℕ). nat_le input_limit (length l)) (sym (left_next k (input_of acts)) ∙ sym (at.input followed))
+          let complete : is_complete (next_request (limit_for world) (input_of acts) k) ≡ true = followed_complete world k (next_request (limit_for world) (input_of acts) k) (followed_by (next_reply world (input_of acts) k) whole (last_is ∙ followed)) in
+          ap (is_full (limit_for world)) (unanswered_at k (ap (λ (p : Place). p.number) c.1))
+          ∙ ap (λ b. b && nat_le input_limit (length (rest_of (limit_for world) (left_after (limit_for world) k (input_of acts))))) complete
+          ∙ ap (λ (l : List ℕ). nat_le input_limit (length l)) (sym (left_next (limit_for world) k (input_of acts)) ∙ sym (at.input followed))
 
       room_by : (l e : Bool) → last ≡ l → held.ended ≡ e → nat_lt 0 (if not last && not held.ended then input_limit - length held.input else 0) ≡ nat_lt 0 (if not l && not e then input_limit - length held.input else 0)
       room_by l e one two = (λ i. nat_lt 0 (if not (one i) && not (two i) then input_limit - length held.input else 0))
 
       by : (l : Bool) → last ≡ l → (e : Bool) → held.ended ≡ e → wants world acts ≡ nat_lt 0 (if not last && not held.ended then input_limit - length held.input else 0)
-      by true l true e = wants_by true true (is_full (unanswered world acts)) open_is (sym ended ∙ e) (lasts ∙ l) refl ∙ sym (room_by true true l e)
-      by true l false e = wants_by false true (is_full (unanswered world acts)) open_is (sym ended ∙ e) (lasts ∙ l) refl ∙ sym (room_by true false l e)
-      by false l true e = wants_by true false (is_full (unanswered world acts)) open_is (sym ended ∙ e) (lasts ∙ l) refl ∙ sym (room_by false true l e)
+      by true l true e = wants_by true true (is_full (limit_for world) (unanswered world acts)) open_is (sym ended ∙ e) (lasts ∙ l) refl ∙ sym (room_by true true l e)
+      by true l false e = wants_by false true (is_full (limit_for world) (unanswered world acts)) open_is (sym ended ∙ e) (lasts ∙ l) refl ∙ sym (room_by true false l e)
+      by false l true e = wants_by true false (is_full (limit_for world) (unanswered world acts)) open_is (sym ended ∙ e) (lasts ∙ l) refl ∙ sym (room_by false true l e)
       by false l false e = wants_by false false (nat_le input_limit (length held.input)) open_is (sym ended ∙ e) (lasts ∙ l) (full l) ∙ room_left input_limit (length held.input) ∙ sym (room_by false false l e)
 
 pub owes_by : (world : World) (acts : List Act) (due : List ℕ) → is_open acts ≡ true → owed world acts ≡ due → owes world acts ≡ nat_lt 0 (length due)
@@ -332,7 +333,7 @@ open_has_no_ending (Close e ∷ acts) is = absurd (cc (is))
 
 -- nothing is due for a link that isn't open
 pub unwanted : (world : World) (acts : List Act) → is_open acts ≡ false → wants world acts ≡ false
-unwanted world acts shut = ap (λ b. b && not (has_ended acts) && not (is_last (current world acts).reply) && not (is_full (unanswered world acts))) shut
+unwanted world acts shut = ap (λ b. b && not (has_ended acts) && not (is_last (current world acts).reply) && not (is_full (limit_for world) (unanswered world acts))) shut
 
 pub unowing : (world : World) (acts : List Act) → is_open acts ≡ false → owes world acts ≡ false
 unowing world acts shut = ap (λ b. b && nat_lt 0 (length (owed world acts))) shut

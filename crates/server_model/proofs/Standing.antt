@@ -2,7 +2,7 @@
 use Rattle.std.proofs.Common.{◌≡◌, ℕ, ◌-◌, ◌<◌, if◌then◌else◌, List, ◌∷◌, Bool, true, false, not, ◌&&◌, nat_lt, length, refl, sym, ◌∙◌, ap}
 use Rattle.lt_world.specs.Disk.{Table}
 use Rattle.lt_world.specs.Trace.{Act, Way, Read, ReadEnd, NotYet}
-use Rattle.server_model.specs.Plan.{World}
+use Rattle.server_model.specs.World.{World}
 use Rattle.server_model.specs.Client.{input_limit, current, owed, wants, owes, IsFinished, IsRight}
 use Rattle.server_model.specs.Deeds.{Deed, ours}
 use Rattle.chunkqueue.specs.Items.{bytes_of, Shows}

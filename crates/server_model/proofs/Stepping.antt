@@ -4,7 +4,8 @@ use Rattle.lt_world.specs.declared.net.Ending.{Ending}
 use Rattle.lt_world.specs.declared.net.Ending.TheVariants as ending
 use Rattle.lt_world.specs.Disk.{Disk, Table}
 use Rattle.lt_world.specs.Trace.{Act, Entry, Close}
-use Rattle.server_model.specs.Plan.{World, world_of}
+use Rattle.server_model.specs.Site.{Site}
+use Rattle.server_model.specs.World.{World, world_of}
 use Rattle.server_model.specs.Deeds.{Deed, Ours, ours, told, AreDeeds}
 use Rattle.server_model.specs.Open.{open_clients}
 use Rattle.server_model.specs.Client.{IsFinished, IsRight}
@@ -16,21 +17,21 @@ use Rattle.server_model.proofs.Owned.{told-append, AreDeeds-append}
 use Rattle.server_model.proofs.FileSteps.{same_files, and_then}
 
 -- a file that is given back changes no world
-pub drops_world : (root : List ℕ) (client : ℕ) (before after : Disk) (file : Option ℕ) → Drops file before after → world_of root after client ≡ world_of root before client
-drops_world root client before after None same = ap (λ d. world_of root d client) same
-drops_world root client before after (Some file) same = ap (λ d. world_of root d client) same
+pub drops_world : (site : Site) (client : ℕ) (before after : Disk) (deeds : List Deed) (file : Option ℕ) → Drops file before after → world_of site after client deeds ≡ world_of site before client deeds
+drops_world site client before after deeds None same = ap (λ d. world_of site d client deeds) same
+drops_world site client before after deeds (Some file) same = ap (λ d. world_of site d client deeds) same
 
-module _ (From : Table → World → Held → List Act → Type 0) (due : World → World → List Deed → List Deed → Type 0) (root : List ℕ) (held : Held) (net files : Type 0) (before : Disk) (old now : List Entry) where
+module _ (From : Table → World → Held → List Act → Type 0) (due : World → World → List Deed → List Deed → Type 0) (site : Site) (held : Held) (net files : Type 0) (before : Disk) (old now : List Entry) where
   -- nothing is done
-  pub step_none : (files → FitsFor before.table (Some held)) → (files → (past : List Deed) → From before.table (world_of root before held.link) held (ours past) → Stands before.table (world_of root before held.link) held (ours past) × due (world_of root before held.link) (world_of root before held.link) past past)
-      → StepsBy From due root held (Some held) net files before before old old
+  pub step_none : (files → FitsFor before.table (Some held)) → (files → (past : List Deed) → From before.table (world_of site before held.link past) held (ours past) → Stands before.table (world_of site before held.link past) held (ours past) × due (world_of site before held.link past) (world_of site before held.link past) past past)
+      → StepsBy From due site held (Some held) net files before before old old
   step_none fits keeps = record { deeds = []; are = tt; gains = λ n. refl; count = λ trace. refl; does = λ f. same_files held.link before held.file; fits = fits; keeps = keeps }
 
   -- these deeds, after which it is to be closed
   pub step_stops : (e : Ending) (new : Held) (deeds : List Deed) → AreDeeds deeds → (net → now ≡ told held.link deeds old) → ((trace : List Entry) → open_clients (told held.link deeds trace) ≡ open_clients trace) → new.link ≡ held.link → new.file ≡ held.file
-      → (files → (past : List Deed) → From before.table (world_of root before held.link) held (ours past)
-      → IsRight (world_of root before held.link) (ours (deeds ++ past)) × (e ≡ ending.Clean → IsFinished (world_of root before held.link) (ours (deeds ++ past))) × due (world_of root before held.link) (world_of root before held.link) past (Ours (Close e) ∷ deeds ++ past))
-      → StopsBy From due root held new e net files before before old now
+      → (files → (past : List Deed) → From before.table (world_of site before held.link past) held (ours past)
+      → IsRight (world_of site before held.link (deeds ++ past)) (ours (deeds ++ past)) × (e ≡ ending.Clean → IsFinished (world_of site before held.link (deeds ++ past)) (ours (deeds ++ past))) × due (world_of site before held.link past) (world_of site before held.link (deeds ++ past)) past (Ours (Close e) ∷ deeds ++ past))
+      → StopsBy From due site held new e net files before before old now
   step_stops e new deeds are gains count link file keeps = record {
     deeds = deeds;
     are = are;
@@ -42,11 +43,11 @@ module _ (From : Table → World → Held → List Act → Type 0) (due : World 
   }
 
 -- known deeds and a change of what is kept, before another step
-module _ (From Mid : Table → World → Held → List Act → Type 0) (due rest : World → World → List Deed → List Deed → Type 0) (root : List ℕ) (held mid : Held) (next : Option Held) (net files : Type 0) (before between after : Disk) (old then now : List Entry) where
+module _ (From Mid : Table → World → Held → List Act → Type 0) (due rest : World → World → List Deed → List Deed → Type 0) (site : Site) (held mid : Held) (next : Option Held) (net files : Type 0) (before between after : Disk) (old then now : List Entry) where
   pub then_step : (deeds : List Deed) → AreDeeds deeds → (net → then ≡ told held.link deeds old) → ((trace : List Entry) → open_clients (told held.link deeds trace) ≡ open_clients trace) → (files → FileStep held.link held.file mid.file before between) → mid.link ≡ held.link
-      → (files → (past : List Deed) → From before.table (world_of root before held.link) held (ours past) → Mid between.table (world_of root between held.link) mid (ours (deeds ++ past)))
-      → (files → (past all : List Deed) → From before.table (world_of root before held.link) held (ours past) → rest (world_of root between held.link) (world_of root after held.link) (deeds ++ past) all → due (world_of root before held.link) (world_of root after held.link) past all)
-      → StepsBy Mid rest root mid next net files between after then now → StepsBy From due root held next net files before after old now
+      → (files → (past : List Deed) → From before.table (world_of site before held.link past) held (ours past) → Mid between.table (world_of site between held.link (deeds ++ past)) mid (ours (deeds ++ past)))
+      → (files → (past all : List Deed) → From before.table (world_of site before held.link past) held (ours past) → rest (world_of site between held.link (deeds ++ past)) (world_of site after held.link all) (deeds ++ past) all → due (world_of site before held.link past) (world_of site after held.link all) past all)
+      → StepsBy Mid rest site mid next net files between after then now → StepsBy From due site held next net files before after old now
   then_step deeds are gains count does same from dues step = record {
     deeds = step.deeds ++ deeds;
     are = AreDeeds-append step.deeds deeds step.are are;
@@ -55,21 +56,21 @@ module _ (From Mid : Table → World → Held → List Act → Type 0) (due rest
     does = λ f. and_then held.link held.file mid.file (file_of next) before between after (does f) (subst (λ (l : ℕ). FileStep l mid.file (file_of next) between after) same (step.does f));
     fits = step.fits;
     keeps = λ f past start.
-        let P : ℕ → Type 0 = λ l. Mid between.table (world_of root between l) mid (ours (deeds ++ past))
-        → StandsFor after.table (world_of root after l) next (step.deeds ++ (deeds ++ past)) × rest (world_of root between l) (world_of root after l) (deeds ++ past) (step.deeds ++ (deeds ++ past)) in
-        let Q : List Deed → Type 0 = λ d. StandsFor after.table (world_of root after held.link) next d × due (world_of root before held.link) (world_of root after held.link) past d in
+        let P : ℕ → Type 0 = λ l. Mid between.table (world_of site between l (deeds ++ past)) mid (ours (deeds ++ past))
+        → StandsFor after.table (world_of site after l (step.deeds ++ (deeds ++ past))) next (step.deeds ++ (deeds ++ past)) × rest (world_of site between l (deeds ++ past)) (world_of site after l (step.deeds ++ (deeds ++ past))) (deeds ++ past) (step.deeds ++ (deeds ++ past)) in
+        let Q : List Deed → Type 0 = λ d. StandsFor after.table (world_of site after held.link d) next d × due (world_of site before held.link past) (world_of site after held.link d) past d in
         let both = subst P same (step.keeps f (deeds ++ past)) (from f past start) in
         subst Q (sym (append_assoc step.deeds deeds past)) (both.0, dues f past (step.deeds ++ (deeds ++ past)) start both.1);
   }
 
 -- a change of what is kept, with no deed, before another step
-module _ (From Mid : Table → World → Held → List Act → Type 0) (due : World → World → List Deed → List Deed → Type 0) (root : List ℕ) (held mid new : Held) (net files : Type 0) (before after : Disk) (old now : List Entry)
-    (link : mid.link ≡ held.link) (file : mid.file ≡ held.file) (from : files → (acts : List Act) → From before.table (world_of root before held.link) held acts → Mid before.table (world_of root before held.link) mid acts) where
-  on_steps : StepsBy Mid due root mid (Some new) net files before after old now → StepsBy From due root held (Some new) net files before after old now
-  on_steps step = then_step From Mid due due root held mid (Some new) net files before before after old old now [] tt (λ n. refl) (λ trace. refl)
-      (λ f. subst (λ (o : Option ℕ). FileStep held.link held.file o before before) (sym file) (same_files held.link before held.file)) link (λ f past start. from f (ours past) start) (λ f past all start d. d) step
+module _ (From Mid : Table → World → Held → List Act → Type 0) (due : World → World → List Deed → List Deed → Type 0) (site : Site) (held mid new : Held) (net files : Type 0) (before after : Disk) (old now : List Entry)
+    (link : mid.link ≡ held.link) (file : mid.file ≡ held.file) (from : files → (past : List Deed) → From before.table (world_of site before held.link past) held (ours past) → Mid before.table (world_of site before held.link past) mid (ours past)) where
+  on_steps : StepsBy Mid due site mid (Some new) net files before after old now → StepsBy From due site held (Some new) net files before after old now
+  on_steps step = then_step From Mid due due site held mid (Some new) net files before before after old old now [] tt (λ n. refl) (λ trace. refl)
+      (λ f. subst (λ (o : Option ℕ). FileStep held.link held.file o before before) (sym file) (same_files held.link before held.file)) link (λ f past start. from f past start) (λ f past all start d. d) step
 
-  on_stops : (e : Ending) → StopsBy Mid due root mid new e net files before after old now → StopsBy From due root held new e net files before after old now
+  on_stops : (e : Ending) → StopsBy Mid due site mid new e net files before after old now → StopsBy From due site held new e net files before after old now
   on_stops e s = record {
     deeds = s.deeds;
     are = s.are;
@@ -78,19 +79,19 @@ module _ (From Mid : Table → World → Held → List Act → Type 0) (due : Wo
     link = s.link ∙ link;
     does = λ f. let P : ℕ → Option ℕ → Type 0 = λ l o. FileStep l o new.file before after in subst (λ (l : ℕ). P l held.file) link (subst (P mid.link) file (s.does f));
     keeps = λ f past start.
-        let P : ℕ → Type 0 = λ l. Mid before.table (world_of root before l) mid (ours past)
-        → IsRight (world_of root after l) (ours (s.deeds ++ past)) × (e ≡ ending.Clean → IsFinished (world_of root after l) (ours (s.deeds ++ past))) × due (world_of root before l) (world_of root after l) past (Ours (Close e) ∷ s.deeds ++ past) in
-        subst P link (s.keeps f past) (from f (ours past) start);
+        let P : ℕ → Type 0 = λ l. Mid before.table (world_of site before l past) mid (ours past)
+        → IsRight (world_of site after l (s.deeds ++ past)) (ours (s.deeds ++ past)) × (e ≡ ending.Clean → IsFinished (world_of site after l (s.deeds ++ past)) (ours (s.deeds ++ past))) × due (world_of site before l past) (world_of site after l (s.deeds ++ past)) past (Ours (Close e) ∷ s.deeds ++ past) in
+        subst P link (s.keeps f past) (from f past start);
   }
 
-  pub on_goes : (result : Option Ending) → GoesBy Mid due root mid new result net files before after old now → GoesBy From due root held new result net files before after old now
+  pub on_goes : (result : Option Ending) → GoesBy Mid due site mid new result net files before after old now → GoesBy From due site held new result net files before after old now
   on_goes None step = on_steps step
   on_goes (Some e) s = on_stops e s
 
 -- the same step, by what is due in another way, and from a disk that is the same where files tell
-module _ (From : Table → World → Held → List Act → Type 0) (due rest : World → World → List Deed → List Deed → Type 0) (root : List ℕ) (held new : Held) (net files : Type 0) (other before after : Disk) (old now : List Entry)
+module _ (From : Table → World → Held → List Act → Type 0) (due rest : World → World → List Deed → List Deed → Type 0) (site : Site) (held new : Held) (net files : Type 0) (other before after : Disk) (old now : List Entry)
     (dues : files → (was is : World) (past all : List Deed) → due was is past all → rest was is past all) (same : files → other ≡ before) where
-  pub same_steps : (next : Option Held) → StepsBy From due root held next net files before after old now → StepsBy From rest root held next net files other after old now
+  pub same_steps : (next : Option Held) → StepsBy From due site held next net files before after old now → StepsBy From rest site held next net files other after old now
   same_steps next s = record {
     deeds = s.deeds;
     are = s.are;
@@ -99,12 +100,12 @@ module _ (From : Table → World → Held → List Act → Type 0) (due rest : W
     does = λ f. subst (λ (d : Disk). FileStep held.link held.file (file_of next) d after) (sym (same f)) (s.does f);
     fits = s.fits;
     keeps = λ f past start.
-        let P : Disk → Type 0 = λ d. From d.table (world_of root d held.link) held (ours past) → StandsFor after.table (world_of root after held.link) next (s.deeds ++ past) × due (world_of root d held.link) (world_of root after held.link) past (s.deeds ++ past) in
+        let P : Disk → Type 0 = λ d. From d.table (world_of site d held.link past) held (ours past) → StandsFor after.table (world_of site after held.link (s.deeds ++ past)) next (s.deeds ++ past) × due (world_of site d held.link past) (world_of site after held.link (s.deeds ++ past)) past (s.deeds ++ past) in
         let both = subst P (sym (same f)) (s.keeps f past) start in
-        (both.0, dues f (world_of root other held.link) (world_of root after held.link) past (s.deeds ++ past) both.1);
+        (both.0, dues f (world_of site other held.link past) (world_of site after held.link (s.deeds ++ past)) past (s.deeds ++ past) both.1);
   }
 
-  pub same_stops : (e : Ending) → StopsBy From due root held new e net files before after old now → StopsBy From rest root held new e net files other after old now
+  pub same_stops : (e : Ending) → StopsBy From due site held new e net files before after old now → StopsBy From rest site held new e net files other after old now
   same_stops e s = record {
     deeds = s.deeds;
     are = s.are;
@@ -113,12 +114,12 @@ module _ (From : Table → World → Held → List Act → Type 0) (due rest : W
     link = s.link;
     does = λ f. subst (λ (d : Disk). FileStep held.link held.file new.file d after) (sym (same f)) (s.does f);
     keeps = λ f past start.
-        let P : Disk → Type 0 = λ d. From d.table (world_of root d held.link) held (ours past)
-        → IsRight (world_of root after held.link) (ours (s.deeds ++ past)) × (e ≡ ending.Clean → IsFinished (world_of root after held.link) (ours (s.deeds ++ past))) × due (world_of root d held.link) (world_of root after held.link) past (Ours (Close e) ∷ s.deeds ++ past) in
+        let P : Disk → Type 0 = λ d. From d.table (world_of site d held.link past) held (ours past)
+        → IsRight (world_of site after held.link (s.deeds ++ past)) (ours (s.deeds ++ past)) × (e ≡ ending.Clean → IsFinished (world_of site after held.link (s.deeds ++ past)) (ours (s.deeds ++ past))) × due (world_of site d held.link past) (world_of site after held.link (s.deeds ++ past)) past (Ours (Close e) ∷ s.deeds ++ past) in
         let all = subst P (sym (same f)) (s.keeps f past) start in
-        (all.0, all.1, dues f (world_of root other held.link) (world_of root after held.link) past (Ours (Close e) ∷ s.deeds ++ past) all.2);
+        (all.0, all.1, dues f (world_of site other held.link past) (world_of site after held.link (s.deeds ++ past)) past (Ours (Close e) ∷ s.deeds ++ past) all.2);
   }
 
-  pub same_goes : (result : Option Ending) → GoesBy From due root held new result net files before after old now → GoesBy From rest root held new result net files other after old now
+  pub same_goes : (result : Option Ending) → GoesBy From due site held new result net files before after old now → GoesBy From rest site held new result net files other after old now
   same_goes None s = same_steps (Some new) s
   same_goes (Some e) s = same_stops e s

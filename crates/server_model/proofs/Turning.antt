@@ -2,7 +2,8 @@
 use Rattle.std.proofs.Common.{◌≡◌, ◌≤◌, arith, ℕ, List, [], ◌∷◌, ◌++◌, Option, Some, None, false, refl, sym, ◌∙◌, ap, subst}
 use Rattle.lt_world.specs.Disk.{Disk, Table}
 use Rattle.lt_world.specs.Trace.{Act, Entry, Readable, Writable}
-use Rattle.server_model.specs.Plan.{World, world_of}
+use Rattle.server_model.specs.Site.{Site}
+use Rattle.server_model.specs.World.{World, world_of}
 use Rattle.server_model.specs.Deeds.{Deed, own, ours, told, AreDeeds}
 use Rattle.server_model.specs.Open.{open_clients}
 use Rattle.server_model.specs.Client.{is_open}
@@ -55,11 +56,11 @@ module _ (link : ℕ) (table next : List Held) (held : Held) (now : Option Held)
   pub backs_step : Backs before.table table → FileStep link held.file (file_of now) before after → FitsFor after.table now → Backs after.table next
   backs_step backs does fits = backs_on link before after table next backs (files_at does) (fits_at fits) change.others
 
-  pub frame_step : (root : List ℕ) (trace : List Entry) (deeds : List Deed) → Backs before.table table → FileStep link held.file (file_of now) before after → FitsFor after.table now → AreDeeds deeds → open_clients (told link deeds trace) ≡ open_with now (open_clients trace)
-      → Serves before (record { root = root; table = table }) trace → StandsFor after.table (world_of root after link) now (deeds ++ own link trace) → Serves after (record { root = root; table = next }) (told link deeds trace)
-  frame_step root trace deeds backs does fits are count serves here =
-      frame link before after table next backs (files_at does) (fits_at fits) change.others root trace deeds are (count ∙ ap (open_with now) serves.count ∙ sym (count_now link table next held now kept change)) serves
-      (subst (λ k. StandsFor after.table (world_of root after link) k (deeds ++ own link trace)) (sym change.here) here)
+  pub frame_step : (site : Site) (trace : List Entry) (deeds : List Deed) → Backs before.table table → FileStep link held.file (file_of now) before after → FitsFor after.table now → AreDeeds deeds → open_clients (told link deeds trace) ≡ open_with now (open_clients trace)
+      → Serves before (record { site = site; table = table }) trace → StandsFor after.table (world_of site after link (deeds ++ own link trace)) now (deeds ++ own link trace) → Serves after (record { site = site; table = next }) (told link deeds trace)
+  frame_step site trace deeds backs does fits are count serves here =
+      frame link before after table next backs (files_at does) (fits_at fits) change.others site trace deeds are (count ∙ ap (open_with now) serves.count ∙ sym (count_now link table next held now kept change)) serves
+      (subst (λ k. StandsFor after.table (world_of site after link (deeds ++ own link trace)) k (deeds ++ own link trace)) (sym change.here) here)
 
 -- the fit of what is kept
 pub kept_fits : (opened : Table) (link : ℕ) (table : List Held) (held : Held) → kept_at link table ≡ Some held → Backs opened table → Fits opened held
@@ -68,17 +69,17 @@ kept_fits opened link table held kept backs = subst (FitsFor opened) kept (backs
 -- an event that is no deed changes no list of deeds
 serves_ready : (event : Act) (link : ℕ) (disk : Disk) (server : Serving) (trace : List Entry) → IsReady event → Serves disk server trace → Serves disk server (record { link = link; act = event } ∷ trace)
 serves_ready event link disk server trace ready serves = record {
-  each = λ o. subst (StandsFor disk.table (world_of server.root disk o) (kept_at o server.table)) (sym (ready o link trace).0) (serves.each o);
+  each = λ o. subst (λ (d : List Deed). StandsFor disk.table (world_of server.site disk o d) (kept_at o server.table) d) (sym (ready o link trace).0) (serves.each o);
   count = (ready link link trace).1 ∙ serves.count;
   opened = serves.opened;
 }
 
 module _ (event : Act) (due : Seen → Seen → ℕ → World → World → List Deed → List Deed → Type 0) (ready : IsReady event) (is_due : IsDue event due)
-    (root : List ℕ) (table next : List Held) (held : Held) (now : Option Held) (net files : Type 0) (before after : Seen) (old told_now : List Entry)
+    (site : Site) (table next : List Held) (held : Held) (now : Option Held) (net files : Type 0) (before after : Seen) (old told_now : List Entry)
     (kept : kept_at held.link table ≡ Some held) (change : Changes held.link table next now) (backs : files → Backs before.disk.table table)
-    (step : StepsBy Stands (due before after held.link) root held now net files before.disk after.disk old told_now) where
-  stands : (trace : List Entry) → Serves before.disk (record { root = root; table = table }) trace → Stands before.disk.table (world_of root before.disk held.link) held (ours (own held.link trace))
-  stands trace serves = let P : Option Held → Type 0 = λ k. StandsFor before.disk.table (world_of root before.disk held.link) k (own held.link trace) in subst P kept (serves.each held.link)
+    (step : StepsBy Stands (due before after held.link) site held now net files before.disk after.disk old told_now) where
+  stands : (trace : List Entry) → Serves before.disk (record { site = site; table = table }) trace → Stands before.disk.table (world_of site before.disk held.link (own held.link trace)) held (ours (own held.link trace))
+  stands trace serves = let P : Option Held → Type 0 = λ k. StandsFor before.disk.table (world_of site before.disk held.link (own held.link trace)) k (own held.link trace) in subst P kept (serves.each held.link)
 
   gains_now : net → (trace : List Entry) → old ≡ record { link = held.link; act = event } ∷ trace → told_now ≡ told held.link step.deeds (record { link = held.link; act = event } ∷ trace)
   gains_now n trace gained = step.gains n ∙ ap (told held.link step.deeds) gained
@@ -88,14 +89,14 @@ module _ (event : Act) (due : Seen → Seen → ℕ → World → World → List
       ap (own held.link) (gains_now n trace gained) ∙ own-told held.link step.deeds (record { link = held.link; act = event } ∷ trace) step.are ∙ ap (λ d. step.deeds ++ d) (ready held.link held.link trace).0
 
   -- a step of a client that is kept is a turn of the server
-  pub turn_step : before.faults ≤ after.faults → TurnsOn event held.link (record { root = root; table = table }) (record { root = root; table = next }) net files before after old told_now
+  pub turn_step : before.faults ≤ after.faults → TurnsOn event held.link (record { site = site; table = table }) (record { site = site; table = next }) net files before after old told_now
   turn_step rises n f trace gained new serves =
       let both = step.keeps f (own held.link trace) (stands trace serves) in
-      let here = subst (λ d. StandsFor after.disk.table (world_of root after.disk held.link) now (step.deeds ++ d)) (sym (ready held.link held.link trace).0) both.0 in
-      let P : List Entry → Type 0 = Serves after.disk (record { root = root; table = next }) in (
+      let here = subst (λ d. StandsFor after.disk.table (world_of site after.disk held.link (step.deeds ++ d)) now (step.deeds ++ d)) (sym (ready held.link held.link trace).0) both.0 in
+      let P : List Entry → Type 0 = Serves after.disk (record { site = site; table = next }) in (
         subst P (sym (gains_now n trace gained))
-            (frame_step held.link table next held now before.disk after.disk kept change root (record { link = held.link; act = event } ∷ trace) step.deeds (backs f) (step.does f) (step.fits f) step.are (step.count (record { link = held.link; act = event } ∷ trace))
-            (serves_ready event held.link before.disk (record { root = root; table = table }) trace ready serves) here),
+            (frame_step held.link table next held now before.disk after.disk kept change site (record { link = held.link; act = event } ∷ trace) step.deeds (backs f) (step.does f) (step.fits f) step.are (step.count (record { link = held.link; act = event } ∷ trace))
+            (serves_ready event held.link before.disk (record { site = site; table = table }) trace ready serves) here),
         record {
           link = held.link;
           event = event;
@@ -104,8 +105,8 @@ module _ (event : Act) (due : Seen → Seen → ℕ → World → World → List
           due = (
             refl,
             step.are,
-            subst (Due (open_clients trace) event (λ k. ReadFailed held.link k before after) (world_of root before.disk held.link) (world_of root after.disk held.link) (own held.link trace)) (sym (own_now n trace gained))
-                (is_due before after held.link (world_of root before.disk held.link) (world_of root after.disk held.link) (own held.link trace) (step.deeds ++ own held.link trace) both.1 (open_clients trace)),
+            subst (λ (d : List Deed). Due (open_clients trace) event (λ k. ReadFailed held.link k before after) (world_of site before.disk held.link (own held.link trace)) (world_of site after.disk held.link d) (own held.link trace) d) (sym (own_now n trace gained))
+                (is_due before after held.link (world_of site before.disk held.link (own held.link trace)) (world_of site after.disk held.link (step.deeds ++ own held.link trace)) (own held.link trace) (step.deeds ++ own held.link trace) both.1 (open_clients trace)),
           );
           grows = record { tree = (step.does f).tree; log = (step.does f).log; faults = rises };
         },
@@ -124,8 +125,8 @@ readable_quiet client seen world deeds shut open_now = DueRead.idle (unwanted wo
 pub writable_quiet : IsQuiet Writable
 writable_quiet client seen world deeds shut open_now = DueWrite.idle (unowing world (ours deeds) shut)
 
-pub none_gone : (link : ℕ) (disk : Disk) (server : Serving) (trace : List Entry) → kept_at link server.table ≡ None → Serves disk server trace → IsGone (world_of server.root disk link) (own link trace)
-none_gone link disk server trace none serves = let P : Option Held → Type 0 = λ k. StandsFor disk.table (world_of server.root disk link) k (own link trace) in subst P none (serves.each link)
+pub none_gone : (link : ℕ) (disk : Disk) (server : Serving) (trace : List Entry) → kept_at link server.table ≡ None → Serves disk server trace → IsGone (world_of server.site disk link (own link trace)) (own link trace)
+none_gone link disk server trace none serves = let P : Option Held → Type 0 = λ k. StandsFor disk.table (world_of server.site disk link (own link trace)) k (own link trace) in subst P none (serves.each link)
 
 pub turn_out : (event : Act) → IsReady event → IsQuiet event → (link : ℕ) (server : Serving) (net files : Type 0) (seen : Seen) (old : List Entry) → kept_at link server.table ≡ None → TurnsOn event link server server net files seen seen old old
 turn_out event ready quiet link server net files seen old none n f trace gained new serves =
@@ -140,8 +141,8 @@ turn_out event ready quiet link server net files seen old none n f trace gained 
         due = (
           refl,
           tt,
-          subst (Due (open_clients trace) event (λ k. ReadFailed link k seen seen) (world_of server.root seen.disk link) (world_of server.root seen.disk link) (own link trace)) (sym same)
-              (quiet link seen (world_of server.root seen.disk link) (own link trace) (none_gone link seen.disk server trace none serves).shut (open_clients trace)),
+          subst (λ (d : List Deed). Due (open_clients trace) event (λ k. ReadFailed link k seen seen) (world_of server.site seen.disk link (own link trace)) (world_of server.site seen.disk link d) (own link trace) d) (sym same)
+              (quiet link seen (world_of server.site seen.disk link (own link trace)) (own link trace) (none_gone link seen.disk server trace none serves).shut (open_clients trace)),
         );
         grows = grows_none seen;
       },

@@ -5,8 +5,9 @@ use Rattle.lt_world.specs.declared.net.Ending.{Ending}
 use Rattle.lt_world.specs.declared.net.Ending.TheVariants as ending
 use Rattle.lt_world.specs.declared.files.FileCall.{FileCall}
 use Rattle.lt_world.specs.Trace.{Act, Accepted, Read, ReadEnd, Failed, Wrote, Close}
-use Rattle.server_model.specs.Request.{request_of, rest_of, is_complete}
-use Rattle.server_model.specs.Plan.{World, call_count}
+use Rattle.server_model.specs.Settings.{limit_for}
+use Rattle.server_model.specs.Request.{Limits, request_of, rest_of, is_complete}
+use Rattle.server_model.specs.World.{World, call_count}
 use Rattle.server_model.specs.Reply.{Extent, Growing, Whole, Reply}
 use Rattle.server_model.specs.Stream.{IsPrefix, is_whole, final, Place, place, remainder, Passed, left_after, replies_to, stream_of}
 use Rattle.server_model.specs.Deeds.{Deed, ours}
@@ -74,16 +75,16 @@ abbrev pub input_limit : ℕ
 input_limit = 65536
 
 -- the request at the front of these bytes is whole, and as many bytes follow it as may be held
-abbrev pub is_full : List ℕ → Bool
-is_full bytes = is_complete (request_of bytes) && nat_le input_limit (length (rest_of bytes))
+abbrev pub is_full : Limits → List ℕ → Bool
+is_full limits bytes = is_complete (request_of limits bytes) && nat_le input_limit (length (rest_of limits bytes))
 
 -- from its current request on
 abbrev pub unanswered : World → List Act → List ℕ
-unanswered world acts = left_after (current world acts).number (input_of acts)
+unanswered world acts = left_after (limit_for world) (current world acts).number (input_of acts)
 
 -- a read is wanted
 abbrev pub wants : World → List Act → Bool
-wants world acts = is_open acts && not (has_ended acts) && not (is_last (current world acts).reply) && not (is_full (unanswered world acts))
+wants world acts = is_open acts && not (has_ended acts) && not (is_last (current world acts).reply) && not (is_full (limit_for world) (unanswered world acts))
 
 -- a write is wanted
 abbrev pub owes : World → List Act → Bool
@@ -104,7 +105,7 @@ pub record IsPlanned (world : World) (acts : List Act) (k : ℕ) : Type 0 where
   pub before : List ℕ
   pub passed : Passed k (replies_to world (input_of acts)) before
   pub taken : IsPrefix before (output_of acts)
-  pub whole : is_complete (request_of (left_after k (input_of acts))) ≡ true
+  pub whole : is_complete (request_of (limit_for world) (left_after (limit_for world) k (input_of acts))) ≡ true
 
 -- calls on files were made for such requests alone
 abbrev pub AskedInTurn : World → List Act → Type 0

@@ -3,7 +3,7 @@ use Rattle.std.specs.Prelude.{◌≡◌, ℕ, ◌<◌, ◌≤◌, List, ◌∷�
 use Rattle.lt_world.specs.declared.net.Address.{Address}
 use Rattle.lt_world.specs.declared.net.Ending.TheVariants as ending
 use Rattle.lt_world.specs.Trace.{Act, Reading, Writing, Accepted, Readable, Writable, Read, ReadEnd, NotYet, Failed, Wrote, Close}
-use Rattle.server_model.specs.Plan.{World}
+use Rattle.server_model.specs.World.{World}
 use Rattle.server_model.specs.Stream.{IsPrefix}
 use Rattle.server_model.specs.Deeds.{Deed, Ours, ours}
 use Rattle.server_model.specs.Client.{has_failed, is_open, current, owed, wants, owes, IsFinished}

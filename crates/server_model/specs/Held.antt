@@ -3,7 +3,9 @@ use Rattle.std.specs.Prelude.{◌≡◌, ℕ, ◌<◌, length, List, [], ◌∷�
 use Rattle.lt_world.specs.declared.net.Address.{Address}
 use Rattle.chunkqueue.specs.Items.{Item}
 use Rattle.lt_http_body.specs.declared.standing.Standing.{Standing}
+use Rattle.server_model.specs.Site.{Site}
 use Rattle.server_model.specs.Request.{Head, Request}
+use Rattle.server_model.specs.World.{Arrival}
 
 pub data Stage : Type 0 where
   -- request k isn't there yet
@@ -33,9 +35,13 @@ pub record Held : Type 0 where
   pub file : Option ℕ
   pub ended : Bool
 
--- what a server keeps: the document root, and the clients that are open
+-- where its client came from, and to which address
+abbrev pub arrival_of : Held → Arrival
+arrival_of held = record { peer = held.peer; local = held.local }
+
+-- what a server keeps: what it serves, and the clients that are open
 pub record Serving : Type 0 where
-  pub root : List ℕ
+  pub site : Site
   pub table : List Held
 
 -- what is kept for this link

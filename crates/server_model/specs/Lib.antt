@@ -1,8 +1,11 @@
+pub mod Site
 pub mod Request
+pub mod Deeds
+pub mod World
+pub mod Settings
 pub mod Plan
 pub mod Reply
 pub mod Stream
-pub mod Deeds
 pub mod Client
 pub mod Held
 pub mod Steps

@@ -1,11 +1,13 @@
 -- The reply to each request of a client, by its number.
-use Rattle.std.specs.Prelude.{ℕ, ◌+◌, ◌==◌, nat_le, nat_lt, List, [], ◌∷◌, ◌++◌, length, codes, Bool, true, false, not, ◌&&◌, ◌||◌, Option, Some, None, if◌then◌else◌}
+use Rattle.std.specs.Prelude.{ℕ, ◌+◌, ◌==◌, nat_le, nat_lt, List, [], ◌∷◌, ◌++◌, length, codes, Bool, true, false, not, ◌&&◌, Option, Some, None, if◌then◌else◌}
 use Rattle.http_head.specs.declared.framing.Framing.{Framing}
 use Rattle.http_head.specs.declared.framing.Framing.TheVariants as framed
 use Rattle.http_reply.specs.FieldLines.{FieldLines}
 use Rattle.http_reply.specs.Replies.{HeadParts, reply_head, error_reply}
-use Rattle.server_model.specs.Request.{Head, Request, Unfinished, Refused, Open, Declined, Complete, body_limit}
-use Rattle.server_model.specs.Plan.{World, Outcome, Error, Content, is_head, plan}
+use Rattle.server_model.specs.Settings.{Settings, settings_of, limit_for, is_last_request}
+use Rattle.server_model.specs.Request.{Head, Request, Unfinished, Refused, Open, Declined, Complete, Limits}
+use Rattle.server_model.specs.World.{World}
+use Rattle.server_model.specs.Plan.{Content, Nothing, Bytes, Outcome, error_fields, is_head, plan}
 
 pub data Extent : Type 0 where
   -- nothing further, and its request isn't whole
@@ -18,33 +20,17 @@ pub record Reply : Type 0 where
   -- no further request is served on the connection
   pub last : Bool
 
--- requests that one connection may send
-abbrev pub request_limit : ℕ
-request_limit = 100
-
--- the connection doesn't outlast request k (RFC 9112, section 9.3)
-abbrev pub is_last_request : ℕ → Head → Bool
-is_last_request k head = head.close || nat_le request_limit (k + 1)
-
 -- the head of a reply in HTTP/1 and a minor version; HTTP/1.0 is told that its connection is kept (RFC 9112, sections 9.3 and 9.6)
-abbrev pub head_parts : ℕ → ℕ → Option ℕ → Bool → HeadParts
-head_parts minor status length last = record { minor = minor; status = status; length = length; last = last; keep = not last && minor == 0; tag = codes "lighttpd" }
-
--- the methods that are allowed instead (RFC 9110, section 10.2.1)
-abbrev pub error_fields : ℕ → FieldLines
-error_fields status = if status == 405 then (codes "Allow", codes "GET, HEAD") ∷ [] else []
+abbrev pub head_parts : List ℕ → ℕ → ℕ → Option ℕ → Bool → HeadParts
+head_parts tag minor status length last = record { minor = minor; status = status; length = length; last = last; keep = not last && minor == 0; tag = tag }
 
 -- an error, with its body unless only the head was asked for
-abbrev pub error_bytes : ℕ → ℕ → Bool → Bool → List ℕ
-error_bytes minor status last head_only = error_reply (head_parts minor status None last) (error_fields status) head_only
+abbrev pub error_bytes : List ℕ → ℕ → ℕ → FieldLines → Bool → Bool → List ℕ
+error_bytes tag minor status fields last head_only = error_reply (head_parts tag minor status None last) fields head_only
 
--- the type of a file's bytes (RFC 2046, section 4.5.1)
-abbrev pub file_fields : FieldLines
-file_fields = (codes "Content-Type", codes "application/octet-stream") ∷ []
-
--- the head before a file of so many bytes
-abbrev pub file_head : ℕ → ℕ → Bool → List ℕ
-file_head minor size last = reply_head (head_parts minor 200 (Some size) last) file_fields
+-- the head before so many bytes
+abbrev pub content_head : List ℕ → ℕ → ℕ → FieldLines → ℕ → Bool → List ℕ
+content_head tag minor status fields size last = reply_head (head_parts tag minor status (Some size) last) fields
 
 -- HEAD gets no body (RFC 9110, section 9.3.2)
 abbrev pub body_for : List ℕ → List ℕ → List ℕ
@@ -60,8 +46,8 @@ is_accepted framed.Chunked limit = true
 abbrev pub continue_bytes : Head → ℕ → List ℕ
 continue_bytes head limit = if head.expect && is_accepted head.framing limit then codes "HTTP/1.1 100 Continue" ++ 13 ∷ 10 ∷ 13 ∷ 10 ∷ [] else []
 
-abbrev pub continue_of : Head → List ℕ
-continue_of head = continue_bytes head body_limit
+abbrev pub continue_of : Limits → Head → List ℕ
+continue_of limits head = continue_bytes head (limits head)
 
 abbrev pub no_reply : Reply
 no_reply = record { bytes = []; extent = Growing; last = false }
@@ -69,17 +55,28 @@ no_reply = record { bytes = []; extent = Growing; last = false }
 abbrev pub whole_reply : List ℕ → Bool → Reply
 whole_reply bytes last = record { bytes = bytes; extent = Whole; last = last }
 
+abbrev pub bytes_by : Head → Bool → Outcome → Content → List ℕ
+bytes_by head last o Nothing = error_bytes o.settings.tag head.minor o.status o.fields last (is_head head.method)
+bytes_by head last o (Bytes bytes) = content_head o.settings.tag head.minor o.status o.fields (length bytes) last ++ body_for head.method bytes
+
 abbrev pub final_bytes : Head → Bool → Outcome → List ℕ
-final_bytes head last (Error status) = error_bytes head.minor status last (is_head head.method)
-final_bytes head last (Content bytes) = file_head head.minor (length bytes) last ++ body_for head.method bytes
+final_bytes head last o = bytes_by head last o o.content
+
+-- an error that is planned without a request's body, or without its head
+abbrev pub refusal_bytes : Settings → ℕ → ℕ → Bool → List ℕ
+refusal_bytes settings minor status head_only = error_bytes settings.tag minor status (error_fields status) true head_only
+
+-- as is planned for request k, behind what its client was told first
+abbrev pub planned_reply : ℕ → Head → List ℕ → Outcome → Reply
+planned_reply k head first o = whole_reply (first ++ final_bytes head (is_last_request o.settings.request_limit k head) o) (is_last_request o.settings.request_limit k head)
 
 -- the reply to request k; where no head was read, it is in HTTP/1.1
 abbrev pub reply : World → ℕ → Request → Reply
 reply world k Unfinished = no_reply
-reply world k (Refused status) = whole_reply (error_bytes 1 status true false) true
-reply world k (Open head) = record { bytes = continue_of head; extent = Growing; last = false }
-reply world k (Declined status head) = whole_reply (continue_of head ++ error_bytes head.minor status true (is_head head.method)) true
-reply world k (Complete head content) = whole_reply (continue_of head ++ final_bytes head (is_last_request k head) (plan world k head)) (is_last_request k head)
+reply world k (Refused status) = whole_reply (refusal_bytes (settings_of world None) 1 status false) true
+reply world k (Open head) = record { bytes = continue_of (limit_for world) head; extent = Growing; last = false }
+reply world k (Declined status head) = whole_reply (continue_of (limit_for world) head ++ refusal_bytes (settings_of world (Some head)) head.minor status (is_head head.method)) true
+reply world k (Complete head content) = planned_reply k head (continue_of (limit_for world) head) (plan world k head)
 
 -- those to these requests, the first of which has number k
 abbrev pub replies : World → ℕ → List Request → List Reply

@@ -1,6 +1,7 @@
 -- A whole run: turns one after another.
-use Rattle.std.specs.Prelude.{ℕ, List}
+use Rattle.std.specs.Prelude.{List}
 use Rattle.lt_world.specs.Trace.{Entry}
+use Rattle.server_model.specs.Site.{Site}
 use Rattle.server_model.specs.Turns.{Seen, IsTurn}
 
 -- what net and files tell at one time
@@ -9,6 +10,6 @@ pub record Told : Type 0 where
   pub trace : List Entry
 
 -- what the trace gained is a list of events, each followed by what is due for it
-pub data IsRun (root : List ℕ) : Told → Told → Type 0 where
-  none : {told : Told} → IsRun root told told
-  more : {before now after : Told} → IsRun root before now → IsTurn root now.seen after.seen now.trace after.trace → IsRun root before after
+pub data IsRun (site : Site) : Told → Told → Type 0 where
+  none : {told : Told} → IsRun site told told
+  more : {before now after : Told} → IsRun site before now → IsTurn site now.seen after.seen now.trace after.trace → IsRun site before after

@@ -3,11 +3,12 @@ use Rattle.std.specs.Prelude.{◌≡◌, ℕ, ◌+◌, ◌≤◌, List, [], ◌+
 use Rattle.lt_world.specs.declared.files.FileCall.{FileCall}
 use Rattle.lt_world.specs.Disk.{Table, Disk}
 use Rattle.lt_world.specs.Trace.{Act, Entry}
-use Rattle.server_model.specs.Request.{Head, Request, Unfinished, Refused, Open, Declined, Complete, HasHead, front_of, request_of, is_complete, begin_of}
+use Rattle.server_model.specs.Settings.{limit_for}
+use Rattle.server_model.specs.Request.{Head, Request, Unfinished, Refused, Open, Declined, Complete, Limits, NoHead, HasHead, front_of, request_of, is_complete, begin_of}
 use Rattle.lt_http_body.specs.declared.standing.Standing.{Standing}
 use Rattle.lt_http_body.specs.Standings.{is_over}
 use Rattle.lt_http_body.specs.Reading.{standing_after, data_in, taken_in}
-use Rattle.server_model.specs.Plan.{World, world_of, call_count}
+use Rattle.server_model.specs.World.{World, world_of, call_count}
 use Rattle.server_model.specs.Reply.{Whole, continue_of}
 use Rattle.server_model.specs.Stream.{Passed, reply_at, left_after, replies_to}
 use Rattle.server_model.specs.Deeds.{Deed, own, ours}
@@ -21,7 +22,7 @@ use Rattle.server_model.specs.Files.{file_of}
 -- the replies before k were taken, and nothing is owed
 pub record IsAwaiting (world : World) (held : Held) (acts : List Act) (k : ℕ) : Type 0 where
   pub passed : Passed k (replies_to world (input_of acts)) (output_of acts)
-  pub input : held.input ≡ left_after k (input_of acts)
+  pub input : held.input ≡ left_after (limit_for world) k (input_of acts)
   pub owed : held.owed ≡ []
   pub staged : held.staged ≡ []
   pub file : held.file ≡ None
@@ -38,34 +39,34 @@ pub record IsBegun (opened : Table) (world : World) (held : Held) (acts : List A
 -- the replies before k were taken, and the head of request k was read
 pub record IsHeading (world : World) (held : Held) (acts : List Act) (k : ℕ) (head : Head) : Type 0 where
   pub passed : Passed k (replies_to world (input_of acts)) (output_of acts)
-  pub front : front_of (left_after k (input_of acts)) ≡ HasHead head held.input
+  pub front : front_of (left_after (limit_for world) k (input_of acts)) ≡ HasHead head held.input
   pub owed : held.owed ≡ []
   pub staged : held.staged ≡ []
   pub file : held.file ≡ None
 
 -- the head of request k was read, and of its body these first bytes
 pub record IsTaking (opened : Table) (world : World) (held : Held) (acts : List Act) (k : ℕ) (head : Head) (s : Standing) (content : List ℕ) : Type 0 where
-  pub begun : IsBegun opened world held acts k (continue_of head)
+  pub begun : IsBegun opened world held acts k (continue_of (limit_for world) head)
   pub read : List ℕ
-  pub front : front_of (left_after k (input_of acts)) ≡ HasHead head (read ++ held.input)
-  pub stands : s ≡ standing_after (begin_of head) read
-  pub content_is : content ≡ data_in (begin_of head) read
-  pub own : taken_in (begin_of head) read ≡ length read
+  pub front : front_of (left_after (limit_for world) k (input_of acts)) ≡ HasHead head (read ++ held.input)
+  pub stands : s ≡ standing_after (begin_of (limit_for world) head) read
+  pub content_is : content ≡ data_in (begin_of (limit_for world) head) read
+  pub own : taken_in (begin_of (limit_for world) head) read ≡ length read
   pub file : held.file ≡ None
 
 -- what a client is told before the reply to a request
-abbrev pub told_first : Request → List ℕ
-told_first Unfinished = []
-told_first (Refused status) = []
-told_first (Open head) = continue_of head
-told_first (Declined status head) = continue_of head
-told_first (Complete head content) = continue_of head
+abbrev pub told_first : Limits → Request → List ℕ
+told_first limits Unfinished = []
+told_first limits (Refused status) = []
+told_first limits (Open head) = continue_of limits head
+told_first limits (Declined status head) = continue_of limits head
+told_first limits (Complete head content) = continue_of limits head
 
 -- request k is there
 pub record IsAsking (opened : Table) (world : World) (held : Held) (acts : List Act) (k : ℕ) (r : Request) : Type 0 where
-  pub begun : IsBegun opened world held acts k (told_first r)
-  pub request : request_of (left_after k (input_of acts)) ≡ r
-  pub input : is_complete r ≡ true → held.input ≡ left_after (k + 1) (input_of acts)
+  pub begun : IsBegun opened world held acts k (told_first (limit_for world) r)
+  pub request : request_of (limit_for world) (left_after (limit_for world) k (input_of acts)) ≡ r
+  pub input : is_complete r ≡ true → held.input ≡ left_after (limit_for world) (k + 1) (input_of acts)
   pub file : held.file ≡ None
 
 -- the replies before k were taken, and of reply k what isn't owed
@@ -78,7 +79,7 @@ pub record IsAnswering (opened : Table) (world : World) (held : Held) (acts : Li
   pub shows : Shows opened held.owed held.staged
   pub whole : (reply_at k (replies_to world (input_of acts))).extent ≡ Whole
   pub last_is : (reply_at k (replies_to world (input_of acts))).last ≡ last
-  pub input : last ≡ false → held.input ≡ left_after (k + 1) (input_of acts)
+  pub input : last ≡ false → held.input ≡ left_after (limit_for world) (k + 1) (input_of acts)
 
 abbrev pub IsAt : Table → World → Held → List Act → Stage → Type 0
 IsAt opened world held acts (Awaiting k) = IsAwaiting world held acts k
@@ -107,7 +108,7 @@ pub record Matches (opened : Table) (world : World) (held : Held) (acts : List A
 
 -- no request is to be answered, all that came of a body was taken up, and of a reply that was given something is owed
 abbrev pub IsWaitingAt : Stage → List ℕ → List Item → Type 0
-IsWaitingAt (Awaiting k) input owed = request_of input ≡ Unfinished
+IsWaitingAt (Awaiting k) input owed = front_of input ≡ NoHead
 IsWaitingAt (Heading k head) input owed = ⊥
 IsWaitingAt (Taking k head s content) input owed = (input ≡ []) × (is_over s.state ≡ false)
 IsWaitingAt (Asking k r) input owed = ⊥
@@ -134,6 +135,6 @@ StandsFor opened world (Some held) deeds = Stands opened world held (ours deeds)
 
 -- for each link the table stands for what was done for it, as many clients are kept as are open, and just the files that clients keep are open
 pub record Serves (disk : Disk) (server : Serving) (trace : List Entry) : Type 0 where
-  pub each : (link : ℕ) → StandsFor disk.table (world_of server.root disk link) (kept_at link server.table) (own link trace)
+  pub each : (link : ℕ) → StandsFor disk.table (world_of server.site disk link (own link trace)) (kept_at link server.table) (own link trace)
   pub count : open_clients trace ≡ length server.table
   pub opened : (file : ℕ) (bytes : List ℕ) → disk.table file ≡ Some bytes → (link : ℕ) × (file_of (kept_at link server.table) ≡ Some file)

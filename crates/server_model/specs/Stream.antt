@@ -1,7 +1,8 @@
 -- All that a client is to get, and how far it got: plain functions of its replies and of how many bytes it took.
 use Rattle.std.specs.Prelude.{◌≡◌, ℕ, zero, suc, ◌+◌, ◌-◌, nat_le, List, [], ◌∷◌, ◌++◌, length, drop, Bool, true, false, not, ◌&&◌, if◌then◌else◌}
-use Rattle.server_model.specs.Request.{requests, rest_of}
-use Rattle.server_model.specs.Plan.{World}
+use Rattle.server_model.specs.Request.{Limits, requests, rest_of}
+use Rattle.server_model.specs.World.{World}
+use Rattle.server_model.specs.Settings.{limit_for}
 use Rattle.server_model.specs.Reply.{Extent, Growing, Whole, Reply, no_reply, replies}
 
 abbrev pub IsPrefix : List ℕ → List ℕ → Type 0
@@ -54,13 +55,13 @@ reply_at zero (r ∷ rs) = r
 reply_at (suc k) (r ∷ rs) = reply_at k rs
 
 -- the bytes after k requests
-abbrev pub left_after : ℕ → List ℕ → List ℕ
-left_after zero bytes = bytes
-left_after (suc k) bytes = left_after k (rest_of bytes)
+abbrev pub left_after : Limits → ℕ → List ℕ → List ℕ
+left_after limits zero bytes = bytes
+left_after limits (suc k) bytes = left_after limits k (rest_of limits bytes)
 
 -- the replies to all that came
 abbrev pub replies_to : World → List ℕ → List Reply
-replies_to world input = replies world 0 (requests input)
+replies_to world input = replies world 0 (requests (limit_for world) input)
 
 abbrev pub stream_of : World → List ℕ → List ℕ
 stream_of world input = joined (replies_to world input)

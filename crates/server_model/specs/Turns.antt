@@ -7,7 +7,8 @@ use Rattle.lt_world.specs.declared.net.Owner.{Owner}
 use Rattle.lt_world.specs.Causes.{Rose}
 use Rattle.lt_world.specs.Disk.{Disk, Table}
 use Rattle.lt_world.specs.Trace.{Act, Entry, Accepted, Close, names}
-use Rattle.server_model.specs.Plan.{World, world_of}
+use Rattle.server_model.specs.Site.{Site}
+use Rattle.server_model.specs.World.{World, world_of}
 use Rattle.server_model.specs.Deeds.{Deed, Ours, own, ours, told, AreDeeds}
 use Rattle.server_model.specs.Open.{open_clients}
 use Rattle.server_model.specs.Client.{IsFinished, IsRight}
@@ -42,14 +43,14 @@ all_told [] trace = trace
 all_told (p ∷ parts) trace = told p.client p.deeds (all_told parts trace)
 
 -- what is due for the client of a link
-abbrev pub DueFor : List ℕ → Act → ℕ → Seen → Seen → List Entry → List Entry → Type 0
-DueFor root event client before after old now = Due (open_clients old) event (λ k. ReadFailed client k before after) (world_of root before.disk client) (world_of root after.disk client) (own client old) (own client now)
+abbrev pub DueFor : Site → Act → ℕ → Seen → Seen → List Entry → List Entry → Type 0
+DueFor site event client before after old now = Due (open_clients old) event (λ k. ReadFailed client k before after) (world_of site before.disk client (own client old)) (world_of site after.disk client (own client now)) (own client old) (own client now)
 
 -- an event of a link concerns its client alone
-abbrev pub DueParts : List ℕ → Act → ℕ → List Part → Seen → Seen → List Entry → List Entry → Type 0
-DueParts root event link [] before after old now = ⊥
-DueParts root event link (p ∷ []) before after old now = (p.client ≡ link) × AreDeeds p.deeds × DueFor root event p.client before after old now
-DueParts root event link (p ∷ q ∷ parts) before after old now = ⊥
+abbrev pub DueParts : Site → Act → ℕ → List Part → Seen → Seen → List Entry → List Entry → Type 0
+DueParts site event link [] before after old now = ⊥
+DueParts site event link (p ∷ []) before after old now = (p.client ≡ link) × AreDeeds p.deeds × DueFor site event p.client before after old now
+DueParts site event link (p ∷ q ∷ parts) before after old now = ⊥
 
 -- no call on the files is forgotten, and the tree stays
 pub record Grows (before after : Seen) : Type 0 where
@@ -58,12 +59,12 @@ pub record Grows (before after : Seen) : Type 0 where
   pub faults : before.faults ≤ after.faults
 
 -- a trace gains an event of a link, and what is due for it
-pub record IsTurn (root : List ℕ) (before after : Seen) (old now : List Entry) : Type 0 where
+pub record IsTurn (site : Site) (before after : Seen) (old now : List Entry) : Type 0 where
   pub link : ℕ
   pub event : Act
   pub parts : List Part
   pub gains : now ≡ all_told parts (record { link = link; act = event } ∷ old)
-  pub due : DueParts root event link parts before after old now
+  pub due : DueParts site event link parts before after old now
   pub grows : Grows before after
 
 -- how many clients are open, where so many were with this one, and this is kept of it now
@@ -72,32 +73,32 @@ open_with None n = n - 1
 open_with (Some held) n = n
 
 -- one client that is kept, in a state that `From` names, goes on by some deeds, as is due, whatever its past
-pub record StepsBy (From : Table → World → Held → List Act → Type 0) (due : World → World → List Deed → List Deed → Type 0) (root : List ℕ) (held : Held) (next : Option Held) (net files : Type 0) (before after : Disk) (old now : List Entry) : Type 0 where
+pub record StepsBy (From : Table → World → Held → List Act → Type 0) (due : World → World → List Deed → List Deed → Type 0) (site : Site) (held : Held) (next : Option Held) (net files : Type 0) (before after : Disk) (old now : List Entry) : Type 0 where
   pub deeds : List Deed
   pub are : AreDeeds deeds
   pub gains : net → now ≡ told held.link deeds old
   pub count : (trace : List Entry) → open_clients (told held.link deeds trace) ≡ open_with next (open_clients trace)
   pub does : files → FileStep held.link held.file (file_of next) before after
   pub fits : files → FitsFor after.table next
-  pub keeps : files → (past : List Deed) → From before.table (world_of root before held.link) held (ours past)
-      → StandsFor after.table (world_of root after held.link) next (deeds ++ past) × due (world_of root before held.link) (world_of root after held.link) past (deeds ++ past)
+  pub keeps : files → (past : List Deed) → From before.table (world_of site before held.link past) held (ours past)
+      → StandsFor after.table (world_of site after held.link (deeds ++ past)) next (deeds ++ past) × due (world_of site before held.link past) (world_of site after held.link (deeds ++ past)) past (deeds ++ past)
 
 -- the same up to where it is to be closed so, and what is kept by then
-pub record StopsBy (From : Table → World → Held → List Act → Type 0) (due : World → World → List Deed → List Deed → Type 0) (root : List ℕ) (held now_held : Held) (e : Ending) (net files : Type 0) (before after : Disk) (old now : List Entry) : Type 0 where
+pub record StopsBy (From : Table → World → Held → List Act → Type 0) (due : World → World → List Deed → List Deed → Type 0) (site : Site) (held now_held : Held) (e : Ending) (net files : Type 0) (before after : Disk) (old now : List Entry) : Type 0 where
   pub deeds : List Deed
   pub are : AreDeeds deeds
   pub gains : net → now ≡ told held.link deeds old
   pub count : (trace : List Entry) → open_clients (told held.link deeds trace) ≡ open_clients trace
   pub link : now_held.link ≡ held.link
   pub does : files → FileStep held.link held.file now_held.file before after
-  pub keeps : files → (past : List Deed) → From before.table (world_of root before held.link) held (ours past)
-      → IsRight (world_of root after held.link) (ours (deeds ++ past)) × (e ≡ ending.Clean → IsFinished (world_of root after held.link) (ours (deeds ++ past)))
-      × due (world_of root before held.link) (world_of root after held.link) past (Ours (Close e) ∷ deeds ++ past)
+  pub keeps : files → (past : List Deed) → From before.table (world_of site before held.link past) held (ours past)
+      → IsRight (world_of site after held.link (deeds ++ past)) (ours (deeds ++ past)) × (e ≡ ending.Clean → IsFinished (world_of site after held.link (deeds ++ past)) (ours (deeds ++ past)))
+      × due (world_of site before held.link past) (world_of site after held.link (deeds ++ past)) past (Ours (Close e) ∷ deeds ++ past)
 
 -- it stays open, or is to be closed
-abbrev pub GoesBy : (Table → World → Held → List Act → Type 0) → (World → World → List Deed → List Deed → Type 0) → List ℕ → Held → Held → Option Ending → Type 0 → Type 0 → Disk → Disk → List Entry → List Entry → Type 0
-GoesBy From due root held new None net files before after old now = StepsBy From due root held (Some new) net files before after old now
-GoesBy From due root held new (Some e) net files before after old now = StopsBy From due root held new e net files before after old now
+abbrev pub GoesBy : (Table → World → Held → List Act → Type 0) → (World → World → List Deed → List Deed → Type 0) → Site → Held → Held → Option Ending → Type 0 → Type 0 → Disk → Disk → List Entry → List Entry → Type 0
+GoesBy From due site held new None net files before after old now = StepsBy From due site held (Some new) net files before after old now
+GoesBy From due site held new (Some e) net files before after old now = StopsBy From due site held new e net files before after old now
 
 -- a link that arrives was never named
 abbrev pub IsNew : Act → ℕ → List Entry → Type 0
@@ -107,4 +108,4 @@ IsNew event link trace = Unit {0}
 -- the server goes on after an event of a link
 abbrev pub TurnsOn : Act → ℕ → Serving → Serving → Type 0 → Type 0 → Seen → Seen → List Entry → List Entry → Type 0
 TurnsOn event link server next net files before after old now = net → files → (trace : List Entry) → old ≡ record { link = link; act = event } ∷ trace → IsNew event link trace
-    → Serves before.disk server trace → Serves after.disk next now × IsTurn server.root before after trace now
+    → Serves before.disk server trace → Serves after.disk next now × IsTurn server.site before after trace now

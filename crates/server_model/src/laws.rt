@@ -1,6 +1,7 @@
 //! The laws on the definitions: each function does nothing, and its clauses are theorems.
-ghost use Rattle.std.specs.Prelude.{◌≡◌, ◌≢◌, ◌⊎◌, ℕ, ◌+◌, ◌<◌, ◌≤◌, ◌||◌, nat_le, List, [], ◌∷◌, ◌++◌, length, take, drop, codes, Bool, true, false, Some, None};
+ghost use Rattle.std.specs.Prelude.{◌≡◌, ◌≢◌, ◌⊎◌, ℕ, ◌+◌, ◌-◌, ◌^◌, ◌<◌, ◌≤◌, ◌||◌, List, [], ◌∷◌, ◌++◌, length, take, drop, codes, Bool, true, false, Some, None};
 ghost use Rattle.lt_world.specs.declared.files.FileCall.{FileCall};
+ghost use Rattle.lt_world.specs.declared.net.Address.{Address};
 ghost use Rattle.lt_world.specs.declared.net.Ending.{Ending};
 ghost use Rattle.lt_world.specs.declared.net.Ending.TheVariants as ending;
 ghost use Rattle.lt_world.specs.Causes.{Rose};
@@ -8,12 +9,14 @@ ghost use Rattle.lt_world.specs.Disk.{Disk};
 ghost use Rattle.lt_world.specs.Trace.{Act, Entry, own as link_acts};
 ghost use Rattle.http_head.specs.declared.framing.Framing.TheVariants as framed;
 ghost use Rattle.http_head.specs.Options.{closes};
-ghost use Rattle.server_model.specs.Request.{Head, Request, Complete, Open, Declined, Refused, HasHead, front_of, headed, request_of, rest_of, is_complete, body_limit};
-ghost use Rattle.server_model.specs.Plan.{World, world_of, with_call};
-ghost use Rattle.server_model.specs.Reply.{Reply, reply, request_limit, is_accepted, continue_of};
+ghost use Rattle.server_model.specs.Site.{Site};
+ghost use Rattle.server_model.specs.Request.{Head, Request, Complete, Open, Declined, Refused, HasHead, front_of, headed, request_of, rest_of, is_complete, Limits};
+ghost use Rattle.server_model.specs.World.{World, is_arrival, world_of, with_call};
+ghost use Rattle.server_model.specs.Settings.{request_limit, settings_of, limit_for, is_reached};
+ghost use Rattle.server_model.specs.Reply.{Reply, reply, is_accepted, continue_of};
 ghost use Rattle.server_model.specs.Stream.{IsPrefix, is_followed, joined, Passed, left_after, replies_to, stream_of};
-ghost use Rattle.server_model.specs.Deeds.{Deed, own, ours, told, deeds_in, AreDeeds};
-ghost use Rattle.server_model.specs.Client.{ending_of, stream, IsServedRight};
+ghost use Rattle.server_model.specs.Deeds.{Deed, Ours, own, ours, told, deeds_in, AreDeeds};
+ghost use Rattle.server_model.specs.Client.{CameFrom, ending_of, stream, IsServedRight};
 ghost use Rattle.server_model.specs.Open.{open_clients};
 ghost use Rattle.server_model.specs.Due.{connection_limit};
 ghost use Rattle.server_model.specs.Held.{Serving};
@@ -24,25 +27,25 @@ ghost use Rattle.server_model.specs.Causes.{IsCause};
 
 /// A server with no client serves where nothing happened yet and no file is open.
 pub fn starts()
-    ensures empty { (root : List ℕ) (disk : Disk) → disk.calls ≡ [] → ((file : ℕ) → disk.table file ≡ None) → Serves disk (record { root = root; table = [] }) [] }
+    ensures empty { (site : Site) (disk : Disk) → disk.calls ≡ [] → ((file : ℕ) → disk.table file ≡ None) → Serves disk (record { site = site; table = [] }) [] }
 {}
 
 /// Where a server serves, each client was served right: what it took is a prefix of its stream, and all of
 /// it where it was closed clean.
 pub fn served_right()
-    ensures right { (disk : Disk) (server : Serving) (trace : List Entry) → Serves disk server trace → (link : ℕ) → IsServedRight (world_of server.root disk link) (own link trace) }
+    ensures right { (disk : Disk) (server : Serving) (trace : List Entry) → Serves disk server trace → (link : ℕ) → IsServedRight (world_of server.site disk link (own link trace)) (own link trace) }
 {}
 
 /// In a run the tree stays, no call on the files is forgotten, and the count of those that failed never falls.
 pub fn runs_grow()
-    ensures grows { (root : List ℕ) (before after : Told) → IsRun root before after → Grows before.seen after.seen }
+    ensures grows { (site : Site) (before after : Told) → IsRun site before after → Grows before.seen after.seen }
 
     // A client is closed for a file's fault only where that count rose in the run.
-    ensures faults { (root : List ℕ) (before after : Told) → IsRun root before after → (client : ℕ) → ending_of (ours (own client after.trace)) ≡ Some ending.FileFault
+    ensures faults { (site : Site) (before after : Told) → IsRun site before after → (client : ℕ) → ending_of (ours (own client after.trace)) ≡ Some ending.FileFault
         → (ending_of (ours (own client before.trace)) ≡ Some ending.FileFault) ⊎ Rose before.seen.faults after.seen.faults }
 
     // However a client is closed in the run, there is a cause for it.
-    ensures endings { (root : List ℕ) (before after : Told) → IsRun root before after → (client : ℕ) (e : Ending) → ending_of (ours (own client after.trace)) ≡ Some e
+    ensures endings { (site : Site) (before after : Told) → IsRun site before after → (client : ℕ) (e : Ending) → ending_of (ours (own client after.trace)) ≡ Some e
         → (ending_of (ours (own client before.trace)) ≡ Some e) ⊎ IsCause e (ours (own client after.trace)) (Rose before.seen.faults after.seen.faults) }
 {}
 
@@ -55,67 +58,67 @@ pub fn client_alone()
 
 /// A request that is there stays so, whatever comes after it.
 pub fn requests_stay()
-    ensures complete { (bytes more : List ℕ) (head : Head) (content : List ℕ) → request_of bytes ≡ Complete head content → (request_of (bytes ++ more) ≡ Complete head content) × (rest_of (bytes ++ more) ≡ rest_of bytes ++ more) }
-    ensures declined { (bytes more : List ℕ) (status : ℕ) (head : Head) → request_of bytes ≡ Declined status head → request_of (bytes ++ more) ≡ Declined status head }
-    ensures refused { (bytes more : List ℕ) (status : ℕ) → request_of bytes ≡ Refused status → request_of (bytes ++ more) ≡ Refused status }
+    ensures complete { (limits : Limits) (bytes more : List ℕ) (head : Head) (content : List ℕ) → request_of limits bytes ≡ Complete head content → (request_of limits (bytes ++ more) ≡ Complete head content) × (rest_of limits (bytes ++ more) ≡ rest_of limits bytes ++ more) }
+    ensures declined { (limits : Limits) (bytes more : List ℕ) (status : ℕ) (head : Head) → request_of limits bytes ≡ Declined status head → request_of limits (bytes ++ more) ≡ Declined status head }
+    ensures refused { (limits : Limits) (bytes more : List ℕ) (status : ℕ) → request_of limits bytes ≡ Refused status → request_of limits (bytes ++ more) ≡ Refused status }
 
     // Where a body isn't whole, its head stays, and what comes is its body's.
-    ensures open { (bytes more : List ℕ) (head : Head) → request_of bytes ≡ Open head
-        → (rest : List ℕ) × (front_of bytes ≡ HasHead head rest) × (request_of (bytes ++ more) ≡ headed head (rest ++ more)) }
+    ensures open { (limits : Limits) (bytes more : List ℕ) (head : Head) → request_of limits bytes ≡ Open head
+        → (rest : List ℕ) × (front_of bytes ≡ HasHead head rest) × (request_of limits (bytes ++ more) ≡ headed limits head (rest ++ more)) }
 {}
 
 /// Where the body of a request ends, and what it carries.
 pub fn bodies_end()
     // Nothing follows a head without framing: what comes is the next request.
-    ensures none { (bytes rest : List ℕ) (head : Head) → front_of bytes ≡ HasHead head rest → head.framing ≡ framed.None
-        → (request_of bytes ≡ Complete head []) × (rest_of bytes ≡ rest) }
+    ensures none { (limits : Limits) (bytes rest : List ℕ) (head : Head) → front_of bytes ≡ HasHead head rest → head.framing ≡ framed.None
+        → (request_of limits bytes ≡ Complete head []) × (rest_of limits bytes ≡ rest) }
 
     // A stated length within the limit is the body's.
-    ensures stated { (bytes rest : List ℕ) (head : Head) (n : ℕ) → front_of bytes ≡ HasHead head rest → head.framing ≡ framed.Length n → n ≤ body_limit → n ≤ length rest
-        → (request_of bytes ≡ Complete head (take n rest)) × (rest_of bytes ≡ drop n rest) }
+    ensures stated { (limits : Limits) (bytes rest : List ℕ) (head : Head) (n : ℕ) → front_of bytes ≡ HasHead head rest → head.framing ≡ framed.Length n → n ≤ limits head → n ≤ length rest
+        → (request_of limits bytes ≡ Complete head (take n rest)) × (rest_of limits bytes ≡ drop n rest) }
 
     // Until so many bytes came, the body isn't whole.
-    ensures short { (bytes rest : List ℕ) (head : Head) (n : ℕ) → front_of bytes ≡ HasHead head rest → head.framing ≡ framed.Length n → n ≤ body_limit → length rest < n
-        → request_of bytes ≡ Open head }
+    ensures short { (limits : Limits) (bytes rest : List ℕ) (head : Head) (n : ℕ) → front_of bytes ≡ HasHead head rest → head.framing ≡ framed.Length n → n ≤ limits head → length rest < n
+        → request_of limits bytes ≡ Open head }
 
-    // A longer one is declined with its head.
-    ensures large { (bytes rest : List ℕ) (head : Head) (n : ℕ) → front_of bytes ≡ HasHead head rest → head.framing ≡ framed.Length n → body_limit < n
-        → request_of bytes ≡ Declined 413 head }
+    // A longer one is declined with its head, where there is a limit.
+    ensures large { (limits : Limits) (bytes rest : List ℕ) (head : Head) (n : ℕ) → limits head < 2 ^ 64 - 1 → front_of bytes ≡ HasHead head rest → head.framing ≡ framed.Length n → limits head < n
+        → request_of limits bytes ≡ Declined 413 head }
 
     // However it is framed, a body carries no more than the limit.
-    ensures within { (bytes : List ℕ) (head : Head) (content : List ℕ) → request_of bytes ≡ Complete head content → length content ≤ body_limit }
+    ensures within { (limits : Limits) (bytes : List ℕ) (head : Head) (content : List ℕ) → limits head < 2 ^ 64 - 1 → request_of limits bytes ≡ Complete head content → length content ≤ limits head }
 {}
 
 /// A client that waits to be told is told to go on, before the reply to its request.
 pub fn clients_continue()
     // The reply to a request whose head was read begins so, and until its body is whole there is no more of it.
-    ensures first { (world : World) (k : ℕ) (bytes rest : List ℕ) (head : Head) → front_of bytes ≡ HasHead head rest → IsPrefix (continue_of head) (reply world k (request_of bytes)).bytes }
-    ensures waits { (world : World) (k : ℕ) (head : Head) → (reply world k (Open head)).bytes ≡ continue_of head }
+    ensures first { (world : World) (k : ℕ) (bytes rest : List ℕ) (head : Head) → front_of bytes ≡ HasHead head rest → IsPrefix (continue_of (limit_for world) head) (reply world k (request_of (limit_for world) bytes)).bytes }
+    ensures waits { (world : World) (k : ℕ) (head : Head) → (reply world k (Open head)).bytes ≡ continue_of (limit_for world) head }
 
     // It is due where the client asks for it and a body follows that is accepted, and nowhere else.
-    ensures asked { (head : Head) → head.expect ≡ true → is_accepted head.framing body_limit ≡ true → continue_of head ≡ codes "HTTP/1.1 100 Continue" ++ 13 ∷ 10 ∷ 13 ∷ 10 ∷ [] }
-    ensures unasked { (head : Head) → head.expect ≡ false → continue_of head ≡ [] }
+    ensures asked { (limits : Limits) (head : Head) → head.expect ≡ true → is_accepted head.framing (limits head) ≡ true → continue_of limits head ≡ codes "HTTP/1.1 100 Continue" ++ 13 ∷ 10 ∷ 13 ∷ 10 ∷ [] }
+    ensures unasked { (limits : Limits) (head : Head) → head.expect ≡ false → continue_of limits head ≡ [] }
     // HTTP/1.0 has no such reply.
-    ensures old { (bytes rest : List ℕ) (head : Head) → front_of bytes ≡ HasHead head rest → head.minor ≡ 0 → continue_of head ≡ [] }
-    ensures bodiless { (head : Head) → head.framing ≡ framed.None → continue_of head ≡ [] }
-    ensures large { (head : Head) (n : ℕ) → head.framing ≡ framed.Length n → body_limit < n → continue_of head ≡ [] }
+    ensures old { (limits : Limits) (bytes rest : List ℕ) (head : Head) → front_of bytes ≡ HasHead head rest → head.minor ≡ 0 → continue_of limits head ≡ [] }
+    ensures bodiless { (limits : Limits) (head : Head) → head.framing ≡ framed.None → continue_of limits head ≡ [] }
+    ensures large { (limits : Limits) (head : Head) (n : ℕ) → head.framing ≡ framed.Length n → limits head < n → continue_of limits head ≡ [] }
 
     // What it was told stays, whatever comes.
-    ensures stays { (world : World) (k : ℕ) (bytes more : List ℕ) → IsPrefix (reply world k (request_of bytes)).bytes (reply world k (request_of (bytes ++ more))).bytes }
+    ensures stays { (world : World) (k : ℕ) (bytes more : List ℕ) → IsPrefix (reply world k (request_of (limit_for world) bytes)).bytes (reply world k (request_of (limit_for world) (bytes ++ more))).bytes }
 {}
 
 /// Requests are answered one by one, in the order in which they came.
 pub fn replies_in_order()
     // After k replies the stream goes on with the reply to request k.
     ensures next { (world : World) (input before : List ℕ) (k : ℕ) → Passed k (replies_to world input) before
-        → (rest : List Reply) × (stream_of world input ≡ before ++ joined (reply world k (request_of (left_after k input)) ∷ rest)) }
+        → (rest : List Reply) × (stream_of world input ≡ before ++ joined (reply world k (request_of (limit_for world) (left_after (limit_for world) k input)) ∷ rest)) }
 
     // A reply that no further reply follows ends the stream.
-    ensures last { (world : World) (input before : List ℕ) (k : ℕ) → Passed k (replies_to world input) before → is_followed (reply world k (request_of (left_after k input))) ≡ false
-        → stream_of world input ≡ before ++ (reply world k (request_of (left_after k input))).bytes }
+    ensures last { (world : World) (input before : List ℕ) (k : ℕ) → Passed k (replies_to world input) before → is_followed (reply world k (request_of (limit_for world) (left_after (limit_for world) k input))) ≡ false
+        → stream_of world input ≡ before ++ (reply world k (request_of (limit_for world) (left_after (limit_for world) k input))).bytes }
 
     // Each of the k requests was whole.
-    ensures whole { (world : World) (input before : List ℕ) (k j : ℕ) → Passed k (replies_to world input) before → j < k → is_complete (request_of (left_after j input)) ≡ true }
+    ensures whole { (world : World) (input before : List ℕ) (k j : ℕ) → Passed k (replies_to world input) before → j < k → is_complete (request_of (limit_for world) (left_after (limit_for world) j input)) ≡ true }
 
     // The first k replies are these bytes and no others.
     ensures only { (world : World) (input a b : List ℕ) (k : ℕ) → Passed k (replies_to world input) a → Passed k (replies_to world input) b → a ≡ b }
@@ -123,18 +126,28 @@ pub fn replies_in_order()
 
 /// Which reply is the last of its connection.
 pub fn connections_end()
-    // The reply to a request is the last exactly where its head closes the connection, or it is the last request that the connection may send.
-    ensures asked { (world : World) (k : ℕ) (bytes : List ℕ) (head : Head) (content : List ℕ) → request_of bytes ≡ Complete head content → (reply world k (Complete head content)).last ≡ (closes head.minor head.fields || nat_le request_limit (k + 1)) }
+    // The reply to a request is the last exactly where its head closes the connection, or no further request may come by its settings.
+    ensures asked { (world : World) (k : ℕ) (bytes : List ℕ) (head : Head) (content : List ℕ) → request_of (limit_for world) bytes ≡ Complete head content → (reply world k (Complete head content)).last ≡ (closes head.minor head.fields || is_reached (settings_of world (Some head)).request_limit k) }
     ensures declined { (world : World) (k status : ℕ) (head : Head) → (reply world k (Declined status head)).last ≡ true }
     ensures refused { (world : World) (k status : ℕ) → (reply world k (Refused status)).last ≡ true }
 
-    // A further reply never follows that to the last request.
+    // No reply that another follows is that to the last request by its settings.
+    ensures unreached { (world : World) (input before : List ℕ) (k j : ℕ) (head : Head) (content : List ℕ) → Passed k (replies_to world input) before → j < k
+        → request_of (limit_for world) (left_after (limit_for world) j input) ≡ Complete head content → is_reached (settings_of world (Some head)).request_limit j ≡ false }
+
+    // So no more come than the limit, which is the same for all requests so far.
     ensures limit { (world : World) (input before : List ℕ) (k : ℕ) → Passed k (replies_to world input) before → k < request_limit }
 {}
 
 /// No more clients are open at once than the limit, in a run that began with no more.
 pub fn clients_limited()
-    ensures within { (root : List ℕ) (before after : Told) → IsRun root before after → open_clients before.trace ≤ connection_limit → open_clients after.trace ≤ connection_limit }
+    ensures within { (site : Site) (before after : Told) → IsRun site before after → open_clients before.trace ≤ connection_limit → open_clients after.trace ≤ connection_limit }
+{}
+
+/// What a client's own deeds tell of its world: where it came from, which no later act changes.
+pub fn worlds_stay()
+    ensures came { (site : Site) (disk : Disk) (client : ℕ) (peer local : Address) (deeds : List Deed) → CameFrom peer local (ours deeds) → (world_of site disk client deeds).side.arrival ≡ Some (record { peer = peer; local = local }) }
+    ensures acts { (site : Site) (disk : Disk) (client : ℕ) (act : Act) (deeds : List Deed) → is_arrival act ≡ false → world_of site disk client (Ours act ∷ deeds) ≡ world_of site disk client deeds }
 {}
 
 /// What a client was to get begins what it is to get later.

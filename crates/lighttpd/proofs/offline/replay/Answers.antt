@@ -7,6 +7,7 @@ use Rattle.lt_script.specs.Loads.{planted}
 use Rattle.lighttpd.proofs.OfflineLemmas.{play_says, is_complete}
 use Rattle.lighttpd.proofs.RunLemmas.{unserved, served_as}
 use Rattle.lighttpd.proofs.offline.replay.Goals as goal
+use Rattle.server_model.specs.Site.{site_at}
 
 pub returns-in-Ok-new-clause-plays : goal.returns-in-Ok-new-clause-plays
 returns-in-Ok-new-clause-plays g c told said held done =
@@ -37,15 +38,15 @@ returns-in-Err-read_script-clause-complete g c told root said rooted held =
     is_complete said c.in-Err-read_script.status (c.in-Err-read_script.ensures.only told said (held.0, kept ∙ held.1, held.2, held.3))
 
 pub returns-in-Err-clause-serves : goal.returns-in-Err-clause-serves
-returns-in-Err-clause-serves g c told root said rooted held = unserved root _ _ _ (ap (λ (s : Stored). s.calls) c.requires.files) (ap (λ (p : Playing). p.game.trace) c.requires.net)
+returns-in-Err-clause-serves g c told root said rooted held = unserved (site_at root) _ _ _ (ap (λ (s : Stored). s.calls) c.requires.files) (ap (λ (p : Playing). p.game.trace) c.requires.net)
 
 pub returns-in-Err-read_script-clause-serves : goal.returns-in-Err-read_script-clause-serves
-returns-in-Err-read_script-clause-serves g c told root said rooted held = unserved root _ _ _ (ap (λ (s : Stored). s.calls) c.requires.files) (ap (λ (p : Playing). p.game.trace) c.requires.net)
+returns-in-Err-read_script-clause-serves g c told root said rooted held = unserved (site_at root) _ _ _ (ap (λ (s : Stored). s.calls) c.requires.files) (ap (λ (p : Playing). p.game.trace) c.requires.net)
 
 pub returns-then-is_err-clause-serves : goal.returns-then-is_err-clause-serves
 returns-then-is_err-clause-serves g c told root said rooted held =
     let kept : c.load.new.self ≡ c.args.net.now = search rules in
-    unserved root _ _ _ (ap (λ (s : Stored). s.calls) c.load.ensures.rest ∙ ap (λ (s : Stored). s.calls) c.requires.files) (ap (λ (p : Playing). p.game.trace) (kept ∙ c.requires.net))
+    unserved (site_at root) _ _ _ (ap (λ (s : Stored). s.calls) c.load.ensures.rest ∙ ap (λ (s : Stored). s.calls) c.requires.files) (ap (λ (p : Playing). p.game.trace) (kept ∙ c.requires.net))
 
 pub returns-in-Ok-new-clause-serves : goal.returns-in-Ok-new-clause-serves
 returns-in-Ok-new-clause-serves g c told root said rooted held =
@@ -54,10 +55,10 @@ returns-in-Ok-new-clause-serves g c told root said rooted held =
     let grown : tree_of c.load.new.files ≡ planted c.in-Ok-read_script.script.files (tree_of c.args.files.now) = search rules in
     let tree_is : tree_of c.load.new.files ≡ planted said.files (tree_of no_files) =
     grown ∙ ap (λ (script : Script). planted script.files (tree_of c.args.files.now)) same ∙ ap (λ (s : Stored). planted said.files (tree_of s)) c.requires.files in
-    served_as c.in-Ok-new.server.root root (tree_of c.load.new.files) (planted said.files (tree_of no_files)) c.play.new.files.calls c.play.new.net.game.trace
-    c.play.ensures.serves (c.in-Ok-new.ensures.root ∙ c.in-Ok.ensures.only told root rooted) tree_is
+    served_as c.in-Ok-new.server.site (site_at root) (tree_of c.load.new.files) (planted said.files (tree_of no_files)) c.play.new.files.calls c.play.new.net.game.trace
+    c.play.ensures.serves (c.in-Ok-new.ensures.site ∙ ap site_at (c.in-Ok.ensures.only told root rooted)) tree_is
 
 pub returns-clause-serves : goal.returns-clause-serves
 returns-clause-serves g c told root said rooted held =
     let loaded : c.load.new.self ≡ unplayed c.in-Ok-read_script.script.steps = search rules in
-    unserved root _ _ _ (ap (λ (s : Stored). s.calls) c.load.ensures.rest ∙ ap (λ (s : Stored). s.calls) c.requires.files) (ap (λ (p : Playing). p.game.trace) loaded)
+    unserved (site_at root) _ _ _ (ap (λ (s : Stored). s.calls) c.load.ensures.rest ∙ ap (λ (s : Stored). s.calls) c.requires.files) (ap (λ (p : Playing). p.game.trace) loaded)

@@ -1,17 +1,17 @@
-use Rattle.std.proofs.Common.{Some, refl, sym, ap, ◌∙◌}
+use Rattle.std.proofs.Common.{Some, sym, ap, ◌∙◌}
 use Rattle.lt_world.specs.declared.net.Ending.TheVariants as ending
-use Rattle.server_model.specs.Request.{body_limit}
+use Rattle.server_core.specs.Served.{served}
 use Rattle.server_model.specs.Held.{Held}
 use Rattle.connection.specs.Stages.{stage_of}
 use Rattle.server_core.proofs.Advancing.{headed_heading}
-use Rattle.server_core.proofs.Settling.{settles_unread, body_idle, body_free, body_fits, body_read, body_then, body_goes, body_link, step_fits, step_link}
+use Rattle.server_core.proofs.Settling.{body_limit, settles_unread, body_idle, body_free, body_fits, body_read, body_then, body_goes, body_link, step_fits, step_link}
 use Rattle.server_core.proofs.settle.read_body.Goals as goal
 
 pub accept_body-requires-clause-heading : goal.accept_body-requires-clause-heading
 accept_body-requires-clause-heading g c = headed_heading c.args.conn.now.held c.requires.heading
 
 pub returns-in_default-clause-settles : goal.returns-in_default-clause-settles
-returns-in_default-clause-settles g c = settles_unread c.args.site.now.root c.args.conn.now.held c.accept_body.new.self.held g.F.Files.tells (g.F.Files.disk c.args.files.now)
+returns-in_default-clause-settles g c = settles_unread (served c.args.site.now) c.args.conn.now.held c.accept_body.new.self.held g.F.Files.tells (g.F.Files.disk c.args.files.now)
     (ap (λ (h : Held). h.link) c.in_default.ensures.err) (ap (λ (h : Held). h.file) c.in_default.ensures.err)
 
 pub returns-in_default-clause-link : goal.returns-in_default-clause-link
@@ -19,43 +19,43 @@ returns-in_default-clause-link g c = ap (λ (h : Held). h.link) c.in_default.ens
 
 pub returns-in_default-advance-clause-settles : goal.returns-in_default-advance-clause-settles
 returns-in_default-advance-clause-settles g c =
-    body_then c.args.site.now.root c.args.conn.now.held c.accept_body.new.self.held g.F.Files.tells (g.F.Files.disk c.args.files.now) body_limit refl c.requires.heading c.requires.free c.in-Ok.ensures.ok
+    body_then (served c.args.site.now) c.args.conn.now.held c.accept_body.new.self.held g.F.Files.tells (g.F.Files.disk c.args.files.now) c.settings_for-settings.result.body_limit (body_limit (served c.args.site.now) c.args.conn.now.held c.settings_for-settings.result.body_limit c.settings_for-settings.ensures.body) c.requires.heading c.requires.free c.in-Ok.ensures.ok
     c.advance.new.self.held (g.F.Files.disk c.args.files.now) (Some ending.NoMemory)
-    (settles_unread c.args.site.now.root c.accept_body.new.self.held c.advance.new.self.held g.F.Files.tells (g.F.Files.disk c.args.files.now)
+    (settles_unread (served c.args.site.now) c.accept_body.new.self.held c.advance.new.self.held g.F.Files.tells (g.F.Files.disk c.args.files.now)
     (ap (λ (h : Held). h.link) c.in_default-advance.ensures.err.0) (ap (λ (h : Held). h.file) c.in_default-advance.ensures.err.0))
 
 pub returns-in_default-advance-clause-link : goal.returns-in_default-advance-clause-link
 returns-in_default-advance-clause-link g c = ap (λ (h : Held). h.link) c.in_default-advance.ensures.err.0
-    ∙ body_link c.args.site.now.root c.args.conn.now.held c.accept_body.new.self.held g.F.Files.tells (g.F.Files.disk c.args.files.now) body_limit refl c.requires.heading c.requires.free c.in-Ok.ensures.ok
+    ∙ body_link (served c.args.site.now) c.args.conn.now.held c.accept_body.new.self.held g.F.Files.tells (g.F.Files.disk c.args.files.now) c.settings_for-settings.result.body_limit (body_limit (served c.args.site.now) c.args.conn.now.held c.settings_for-settings.result.body_limit c.settings_for-settings.ensures.body) c.requires.heading c.requires.free c.in-Ok.ensures.ok
 
 pub go_on-requires-clause-advanced : goal.go_on-requires-clause-advanced
 go_on-requires-clause-advanced g c = record {
   before = c.accept_body.new.self.held;
-  idle = body_idle c.args.site.now.root c.args.conn.now.held c.accept_body.new.self.held g.F.Files.tells (g.F.Files.disk c.args.files.now) body_limit refl c.requires.heading c.requires.free c.in-Ok.ensures.ok;
-  free = body_free c.args.site.now.root c.args.conn.now.held c.accept_body.new.self.held g.F.Files.tells (g.F.Files.disk c.args.files.now) body_limit refl c.requires.heading c.requires.free c.in-Ok.ensures.ok;
+  idle = body_idle (served c.args.site.now) c.args.conn.now.held c.accept_body.new.self.held g.F.Files.tells (g.F.Files.disk c.args.files.now) c.settings_for-settings.result.body_limit (body_limit (served c.args.site.now) c.args.conn.now.held c.settings_for-settings.result.body_limit c.settings_for-settings.ensures.body) c.requires.heading c.requires.free c.in-Ok.ensures.ok;
+  free = body_free (served c.args.site.now) c.args.conn.now.held c.accept_body.new.self.held g.F.Files.tells (g.F.Files.disk c.args.files.now) c.settings_for-settings.result.body_limit (body_limit (served c.args.site.now) c.args.conn.now.held c.settings_for-settings.result.body_limit c.settings_for-settings.ensures.body) c.requires.heading c.requires.free c.in-Ok.ensures.ok;
   is = c.in-Ok-advance.ensures.ok;
 }
 
 pub go_on-requires-clause-read : goal.go_on-requires-clause-read
 go_on-requires-clause-read g c head =
-    body_read c.args.site.now.root c.args.conn.now.held c.accept_body.new.self.held g.F.Files.tells (g.F.Files.disk c.args.files.now) body_limit refl c.requires.heading c.requires.free c.in-Ok.ensures.ok
+    body_read (served c.args.site.now) c.args.conn.now.held c.accept_body.new.self.held g.F.Files.tells (g.F.Files.disk c.args.files.now) c.settings_for-settings.result.body_limit (body_limit (served c.args.site.now) c.args.conn.now.held c.settings_for-settings.result.body_limit c.settings_for-settings.ensures.body) c.requires.heading c.requires.free c.in-Ok.ensures.ok
     (ap stage_of (sym c.in-Ok-advance.ensures.ok) ∙ sym c.in-Ok-advance.ensures.stage ∙ head)
 
 pub go_on-requires-clause-fits : goal.go_on-requires-clause-fits
 go_on-requires-clause-fits g c =
-    step_fits c.args.site.now.root c.accept_body.new.self.held c.advance.new.self.held g.F.Files.tells (g.F.Files.disk c.args.files.now)
-    (body_free c.args.site.now.root c.args.conn.now.held c.accept_body.new.self.held g.F.Files.tells (g.F.Files.disk c.args.files.now) body_limit refl c.requires.heading c.requires.free c.in-Ok.ensures.ok)
+    step_fits (served c.args.site.now) c.accept_body.new.self.held c.advance.new.self.held g.F.Files.tells (g.F.Files.disk c.args.files.now)
+    (body_free (served c.args.site.now) c.args.conn.now.held c.accept_body.new.self.held g.F.Files.tells (g.F.Files.disk c.args.files.now) c.settings_for-settings.result.body_limit (body_limit (served c.args.site.now) c.args.conn.now.held c.settings_for-settings.result.body_limit c.settings_for-settings.ensures.body) c.requires.heading c.requires.free c.in-Ok.ensures.ok)
     c.in-Ok-advance.ensures.ok
-    (body_fits c.args.site.now.root c.args.conn.now.held c.accept_body.new.self.held g.F.Files.tells (g.F.Files.disk c.args.files.now) body_limit refl c.requires.heading c.requires.free c.in-Ok.ensures.ok c.requires.fits)
+    (body_fits (served c.args.site.now) c.args.conn.now.held c.accept_body.new.self.held g.F.Files.tells (g.F.Files.disk c.args.files.now) c.settings_for-settings.result.body_limit (body_limit (served c.args.site.now) c.args.conn.now.held c.settings_for-settings.result.body_limit c.settings_for-settings.ensures.body) c.requires.heading c.requires.free c.in-Ok.ensures.ok c.requires.fits)
 
 pub returns-clause-settles : goal.returns-clause-settles
 returns-clause-settles g c =
-    body_goes c.args.site.now.root c.args.conn.now.held c.accept_body.new.self.held g.F.Files.tells (g.F.Files.disk c.args.files.now) body_limit refl c.requires.heading c.requires.free c.in-Ok.ensures.ok
+    body_goes (served c.args.site.now) c.args.conn.now.held c.accept_body.new.self.held g.F.Files.tells (g.F.Files.disk c.args.files.now) c.settings_for-settings.result.body_limit (body_limit (served c.args.site.now) c.args.conn.now.held c.settings_for-settings.result.body_limit c.settings_for-settings.ensures.body) c.requires.heading c.requires.free c.in-Ok.ensures.ok
     c.advance.new.self.held c.go_on.new.conn.held (g.F.Files.disk c.go_on.new.files) c.go_on.result c.in-Ok-advance.ensures.ok c.go_on.ensures.settles
 
 pub returns-clause-link : goal.returns-clause-link
 returns-clause-link g c = c.go_on.ensures.link
-    ∙ step_link c.args.site.now.root c.accept_body.new.self.held c.advance.new.self.held g.F.Files.tells (g.F.Files.disk c.args.files.now)
-    (body_free c.args.site.now.root c.args.conn.now.held c.accept_body.new.self.held g.F.Files.tells (g.F.Files.disk c.args.files.now) body_limit refl c.requires.heading c.requires.free c.in-Ok.ensures.ok)
+    ∙ step_link (served c.args.site.now) c.accept_body.new.self.held c.advance.new.self.held g.F.Files.tells (g.F.Files.disk c.args.files.now)
+    (body_free (served c.args.site.now) c.args.conn.now.held c.accept_body.new.self.held g.F.Files.tells (g.F.Files.disk c.args.files.now) c.settings_for-settings.result.body_limit (body_limit (served c.args.site.now) c.args.conn.now.held c.settings_for-settings.result.body_limit c.settings_for-settings.ensures.body) c.requires.heading c.requires.free c.in-Ok.ensures.ok)
     c.in-Ok-advance.ensures.ok
-    ∙ body_link c.args.site.now.root c.args.conn.now.held c.accept_body.new.self.held g.F.Files.tells (g.F.Files.disk c.args.files.now) body_limit refl c.requires.heading c.requires.free c.in-Ok.ensures.ok
+    ∙ body_link (served c.args.site.now) c.args.conn.now.held c.accept_body.new.self.held g.F.Files.tells (g.F.Files.disk c.args.files.now) c.settings_for-settings.result.body_limit (body_limit (served c.args.site.now) c.args.conn.now.held c.settings_for-settings.result.body_limit c.settings_for-settings.ensures.body) c.requires.heading c.requires.free c.in-Ok.ensures.ok

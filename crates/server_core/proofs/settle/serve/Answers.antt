@@ -1,3 +1,7 @@
+use Rattle.std.proofs.Common.{Some}
+use Rattle.server_core.specs.Served.{served}
+use Rattle.server_model.specs.Held.{arrival_of}
+use Rattle.server_model.specs.Settings.{settings_at}
 use Rattle.server_model.specs.Steps.{number_of}
 use Rattle.server_core.specs.Form.{form_of}
 use Rattle.server_core.specs.declared.plan.Planned.TheVariants as planned
@@ -5,16 +9,16 @@ use Rattle.server_core.proofs.Settling.{settles_error, settles_unplanned, error_
 use Rattle.server_core.proofs.settle.serve.Goals as goal
 
 pub returns-in-Error-clause-settles : goal.returns-in-Error-clause-settles
-returns-in-Error-clause-settles g c before head content asking form here plans =
-    settles_error c.args.site.now.root c.args.conn.now.held g.F.Files.tells before (g.F.Files.disk c.args.files.now) head content asking c.requires.file here c.in-Error.status c.refuse.new.conn.held c.refuse.result
-    (error_formed c.refuse.result c.args.conn.now.held c.refuse.new.conn.held c.in-Error.status c.args.form (form_of (number_of c.args.conn.now.held.stage) head) form c.refuse.ensures.given)
-    (λ f. plans_as c.args.planned (planned.Error c.in-Error.status) c.in-Error.is c.args.site.now.root c.args.conn.now.held.link (number_of c.args.conn.now.held.stage) head before (g.F.Files.disk c.args.files.now) (plans f))
+returns-in-Error-clause-settles g c before head content asking form called here plans =
+    settles_error (served c.args.site.now) c.args.conn.now.held g.F.Files.tells before (g.F.Files.disk c.args.files.now) head content asking c.requires.file here c.in-Error.status c.refuse.new.conn.held c.refuse.result
+    (error_formed c.refuse.result c.args.conn.now.held c.refuse.new.conn.held c.in-Error.status c.args.tag.now (settings_at (served c.args.site.now) (Some (arrival_of c.args.conn.now.held)) (Some head)).tag c.args.form (form_of (settings_at (served c.args.site.now) (Some (arrival_of c.args.conn.now.held)) (Some head)).request_limit (number_of c.args.conn.now.held.stage) head) called form c.refuse.ensures.given)
+    (λ f. plans_as c.args.planned (planned.Error c.in-Error.status) c.in-Error.is (served c.args.site.now) (Some (arrival_of c.args.conn.now.held)) c.args.conn.now.held.link (number_of c.args.conn.now.held.stage) head before (g.F.Files.disk c.args.files.now) (plans f))
 
 pub returns-in-File-clause-settles : goal.returns-in-File-clause-settles
-returns-in-File-clause-settles g c before head content asking form here plans = c.send_file.ensures.settles before head content asking form here
-    (λ f. plans_as c.args.planned (planned.File c.in-File.file c.in-File.size) c.in-File.is c.args.site.now.root c.args.conn.now.held.link (number_of c.args.conn.now.held.stage) head before (g.F.Files.disk c.args.files.now) (plans f))
+returns-in-File-clause-settles g c before head content asking form called here plans = c.send_file.ensures.settles before head content asking form called here
+    (λ f. plans_as c.args.planned (planned.File c.in-File.file c.in-File.size) c.in-File.is (served c.args.site.now) (Some (arrival_of c.args.conn.now.held)) c.args.conn.now.held.link (number_of c.args.conn.now.held.stage) head before (g.F.Files.disk c.args.files.now) (plans f))
 
 pub returns-in-NoMemory-clause-settles : goal.returns-in-NoMemory-clause-settles
-returns-in-NoMemory-clause-settles g c before head content asking form here plans =
-    settles_unplanned c.args.site.now.root c.args.conn.now.held g.F.Files.tells before (g.F.Files.disk c.args.files.now) head content asking c.requires.file here
-    (λ f. plans_as c.args.planned planned.NoMemory c.in-NoMemory.is c.args.site.now.root c.args.conn.now.held.link (number_of c.args.conn.now.held.stage) head before (g.F.Files.disk c.args.files.now) (plans f))
+returns-in-NoMemory-clause-settles g c before head content asking form called here plans =
+    settles_unplanned (served c.args.site.now) c.args.conn.now.held g.F.Files.tells before (g.F.Files.disk c.args.files.now) head content asking c.requires.file here
+    (λ f. plans_as c.args.planned planned.NoMemory c.in-NoMemory.is (served c.args.site.now) (Some (arrival_of c.args.conn.now.held)) c.args.conn.now.held.link (number_of c.args.conn.now.held.stage) head before (g.F.Files.disk c.args.files.now) (plans f))

@@ -1,5 +1,6 @@
 use Rattle.std.proofs.Common.{refl, set, Some, None, ap, ◌∙◌, arith}
 use Rattle.lt_world.specs.Trace.{Writable}
+use Rattle.server_core.specs.Served.{served}
 use Rattle.server_model.specs.Serves.{Stands}
 use Rattle.server_model.specs.Due.{DueWrite}
 use Rattle.server_model.proofs.Going.{stop_closed}
@@ -12,7 +13,7 @@ use Rattle.server_core.proofs.Tabled.{place_as, none_as, lent_at, close_told, dr
 use Rattle.server_core.proofs.table.write_on.Goals as goal
 
 pub returns-in_default-clause-turn : goal.returns-in_default-clause-turn
-returns-in_default-clause-turn g c = turn_out Writable writable_ready writable_quiet c.args.link.0 (serving c.args.site.now.root c.args.clients.now.items) g.N.Net.tells g.F.Files.tells (seen_as (g.F.Files.disk c.args.files.now) (g.F.Files.faults c.args.files.now) (g.F.Files.failed_read c.args.files.now)) (g.N.Net.trace c.args.net.now)
+returns-in_default-clause-turn g c = turn_out Writable writable_ready writable_quiet c.args.link.0 (serving (served c.args.site.now) c.args.clients.now.items) g.N.Net.tells g.F.Files.tells (seen_as (g.F.Files.disk c.args.files.now) (g.F.Files.faults c.args.files.now) (g.F.Files.failed_read c.args.files.now)) (g.N.Net.trace c.args.net.now)
     (none_as c.args.link.0 c.args.clients.now.items c.deref.result.now c.deref.ensures.value c.in_default.ensures)
 
 pub write_for-requires-clause-known : goal.write_for-requires-clause-known
@@ -28,7 +29,7 @@ pub write_for-requires-clause-fits : goal.write_for-requires-clause-fits
 write_for-requires-clause-fits g c f = kept_fits (g.F.Files.disk c.args.files.now).table c.args.link.0 (helds c.args.clients.now.items) c.conn_mut.result.now.held (place_kept c.args.link.0 c.args.clients.now.items c.in-Some.i c.conn_mut.result.now (place_as c.args.link.0 c.args.clients.now.items c.deref.result.now c.in-Some.i c.deref.ensures.value c.in-Some.ensures) (lent_at c.args.clients.now.items c.in-Some.i c.index_mut-client.result.now c.conn_mut.result.now c.conn_mut.ensures.value c.index_mut-client.ensures.value) c.requires.kept.rising) (c.requires.backs f)
 
 pub returns-in_default-write_for-clause-turn : goal.returns-in_default-write_for-clause-turn
-returns-in_default-write_for-clause-turn g c = conns_turn Writable due_write writable_ready writable_due c.args.link.0 c.args.site.now.root c.args.clients.now.items (set c.args.clients.now.items c.in-Some.i c.write_for.new.conn) c.conn_mut.result.now.held (Some c.write_for.new.conn.held) g.N.Net.tells g.F.Files.tells (seen_as (g.F.Files.disk c.args.files.now) (g.F.Files.faults c.args.files.now) (g.F.Files.failed_read c.args.files.now)) (seen_as (g.F.Files.disk c.write_for.new.files) (g.F.Files.faults c.write_for.new.files) (g.F.Files.failed_read c.write_for.new.files)) (g.N.Net.trace c.args.net.now) (g.N.Net.trace c.write_for.new.net)
+returns-in_default-write_for-clause-turn g c = conns_turn Writable due_write writable_ready writable_due c.args.link.0 (served c.args.site.now) c.args.clients.now.items (set c.args.clients.now.items c.in-Some.i c.write_for.new.conn) c.conn_mut.result.now.held (Some c.write_for.new.conn.held) g.N.Net.tells g.F.Files.tells (seen_as (g.F.Files.disk c.args.files.now) (g.F.Files.faults c.args.files.now) (g.F.Files.failed_read c.args.files.now)) (seen_as (g.F.Files.disk c.write_for.new.files) (g.F.Files.faults c.write_for.new.files) (g.F.Files.failed_read c.write_for.new.files)) (g.N.Net.trace c.args.net.now) (g.N.Net.trace c.write_for.new.net)
     (place_link c.args.link.0 c.args.clients.now.items c.in-Some.i c.conn_mut.result.now (place_as c.args.link.0 c.args.clients.now.items c.deref.result.now c.in-Some.i c.deref.ensures.value c.in-Some.ensures) (lent_at c.args.clients.now.items c.in-Some.i c.index_mut-client.result.now c.conn_mut.result.now c.conn_mut.ensures.value c.index_mut-client.ensures.value)) (place_kept c.args.link.0 c.args.clients.now.items c.in-Some.i c.conn_mut.result.now (place_as c.args.link.0 c.args.clients.now.items c.deref.result.now c.in-Some.i c.deref.ensures.value c.in-Some.ensures) (lent_at c.args.clients.now.items c.in-Some.i c.index_mut-client.result.now c.conn_mut.result.now c.conn_mut.ensures.value c.index_mut-client.ensures.value) c.requires.kept.rising)
     (place_set c.args.link.0 c.args.clients.now.items c.in-Some.i c.conn_mut.result.now (place_as c.args.link.0 c.args.clients.now.items c.deref.result.now c.in-Some.i c.deref.ensures.value c.in-Some.ensures) (lent_at c.args.clients.now.items c.in-Some.i c.index_mut-client.result.now c.conn_mut.result.now c.conn_mut.ensures.value c.index_mut-client.ensures.value) c.requires.kept.rising c.write_for.new.conn c.write_for.ensures.link) c.requires.backs
     (c.in_default-write_for.ensures.goes (seen_as (g.F.Files.disk c.write_for.new.files) (g.F.Files.faults c.write_for.new.files) (g.F.Files.failed_read c.write_for.new.files)) (omega arith) (λ f. refl)) c.in_default-write_for.ensures.faults
@@ -41,7 +42,7 @@ returns-in_default-write_for-clause-table g c is = conns_table (g.N.Net.links c.
     (place_set c.args.link.0 c.args.clients.now.items c.in-Some.i c.conn_mut.result.now (place_as c.args.link.0 c.args.clients.now.items c.deref.result.now c.in-Some.i c.deref.ensures.value c.in-Some.ensures) (lent_at c.args.clients.now.items c.in-Some.i c.index_mut-client.result.now c.conn_mut.result.now c.conn_mut.ensures.value c.index_mut-client.ensures.value) c.requires.kept.rising c.write_for.new.conn c.write_for.ensures.link) c.write_for.ensures.links c.requires.known is
 
 pub returns-in_default-write_for-clause-backs : goal.returns-in_default-write_for-clause-backs
-returns-in_default-write_for-clause-backs g c f = conns_backs Writable due_write writable_ready writable_due c.args.link.0 c.args.site.now.root c.args.clients.now.items (set c.args.clients.now.items c.in-Some.i c.write_for.new.conn) c.conn_mut.result.now.held (Some c.write_for.new.conn.held) g.N.Net.tells g.F.Files.tells (seen_as (g.F.Files.disk c.args.files.now) (g.F.Files.faults c.args.files.now) (g.F.Files.failed_read c.args.files.now)) (seen_as (g.F.Files.disk c.write_for.new.files) (g.F.Files.faults c.write_for.new.files) (g.F.Files.failed_read c.write_for.new.files)) (g.N.Net.trace c.args.net.now) (g.N.Net.trace c.write_for.new.net)
+returns-in_default-write_for-clause-backs g c f = conns_backs Writable due_write writable_ready writable_due c.args.link.0 (served c.args.site.now) c.args.clients.now.items (set c.args.clients.now.items c.in-Some.i c.write_for.new.conn) c.conn_mut.result.now.held (Some c.write_for.new.conn.held) g.N.Net.tells g.F.Files.tells (seen_as (g.F.Files.disk c.args.files.now) (g.F.Files.faults c.args.files.now) (g.F.Files.failed_read c.args.files.now)) (seen_as (g.F.Files.disk c.write_for.new.files) (g.F.Files.faults c.write_for.new.files) (g.F.Files.failed_read c.write_for.new.files)) (g.N.Net.trace c.args.net.now) (g.N.Net.trace c.write_for.new.net)
     (place_link c.args.link.0 c.args.clients.now.items c.in-Some.i c.conn_mut.result.now (place_as c.args.link.0 c.args.clients.now.items c.deref.result.now c.in-Some.i c.deref.ensures.value c.in-Some.ensures) (lent_at c.args.clients.now.items c.in-Some.i c.index_mut-client.result.now c.conn_mut.result.now c.conn_mut.ensures.value c.index_mut-client.ensures.value)) (place_kept c.args.link.0 c.args.clients.now.items c.in-Some.i c.conn_mut.result.now (place_as c.args.link.0 c.args.clients.now.items c.deref.result.now c.in-Some.i c.deref.ensures.value c.in-Some.ensures) (lent_at c.args.clients.now.items c.in-Some.i c.index_mut-client.result.now c.conn_mut.result.now c.conn_mut.ensures.value c.index_mut-client.ensures.value) c.requires.kept.rising)
     (place_set c.args.link.0 c.args.clients.now.items c.in-Some.i c.conn_mut.result.now (place_as c.args.link.0 c.args.clients.now.items c.deref.result.now c.in-Some.i c.deref.ensures.value c.in-Some.ensures) (lent_at c.args.clients.now.items c.in-Some.i c.index_mut-client.result.now c.conn_mut.result.now c.conn_mut.ensures.value c.index_mut-client.ensures.value) c.requires.kept.rising c.write_for.new.conn c.write_for.ensures.link) c.requires.backs
     (c.in_default-write_for.ensures.goes (seen_as (g.F.Files.disk c.write_for.new.files) (g.F.Files.faults c.write_for.new.files) (g.F.Files.failed_read c.write_for.new.files)) (omega arith) (λ f. refl)) f
@@ -53,10 +54,10 @@ pub finish-requires-clause-counted : goal.finish-requires-clause-counted
 finish-requires-clause-counted g c = within_as c.write_for.new.store c.into_conn.result c.write_for.new.conn (taken_is c.args.clients.now.items c.in-Some.i c.write_for.new.conn c.into_conn.result (place_below c.args.link.0 c.args.clients.now.items c.in-Some.i c.conn_mut.result.now (place_as c.args.link.0 c.args.clients.now.items c.deref.result.now c.in-Some.i c.deref.ensures.value c.in-Some.ensures) (lent_at c.args.clients.now.items c.in-Some.i c.index_mut-client.result.now c.conn_mut.result.now c.conn_mut.ensures.value c.index_mut-client.ensures.value)) (lent_at (set c.args.clients.now.items c.in-Some.i c.write_for.new.conn) c.in-Some.i c.remove.result c.into_conn.result c.into_conn.ensures c.remove.ensures.value)) (closing_within c.args.link.0 c.args.clients.now.items c.in-Some.i c.conn_mut.result.now (place_as c.args.link.0 c.args.clients.now.items c.deref.result.now c.in-Some.i c.deref.ensures.value c.in-Some.ensures) (lent_at c.args.clients.now.items c.in-Some.i c.index_mut-client.result.now c.conn_mut.result.now c.conn_mut.ensures.value c.index_mut-client.ensures.value) c.args.store.now c.requires.kept c.write_for.new.conn c.write_for.new.store c.write_for.ensures.kept)
 
 pub returns-clause-turn : goal.returns-clause-turn
-returns-clause-turn g c = conns_turn Writable due_write writable_ready writable_due c.args.link.0 c.args.site.now.root c.args.clients.now.items c.remove.new.self.items c.conn_mut.result.now.held None g.N.Net.tells g.F.Files.tells (seen_as (g.F.Files.disk c.args.files.now) (g.F.Files.faults c.args.files.now) (g.F.Files.failed_read c.args.files.now)) (seen_as (g.F.Files.disk c.finish.new.files) (g.F.Files.faults c.finish.new.files) (g.F.Files.failed_read c.finish.new.files)) (g.N.Net.trace c.args.net.now) (g.N.Net.trace c.finish.new.net)
+returns-clause-turn g c = conns_turn Writable due_write writable_ready writable_due c.args.link.0 (served c.args.site.now) c.args.clients.now.items c.remove.new.self.items c.conn_mut.result.now.held None g.N.Net.tells g.F.Files.tells (seen_as (g.F.Files.disk c.args.files.now) (g.F.Files.faults c.args.files.now) (g.F.Files.failed_read c.args.files.now)) (seen_as (g.F.Files.disk c.finish.new.files) (g.F.Files.faults c.finish.new.files) (g.F.Files.failed_read c.finish.new.files)) (g.N.Net.trace c.args.net.now) (g.N.Net.trace c.finish.new.net)
     (place_link c.args.link.0 c.args.clients.now.items c.in-Some.i c.conn_mut.result.now (place_as c.args.link.0 c.args.clients.now.items c.deref.result.now c.in-Some.i c.deref.ensures.value c.in-Some.ensures) (lent_at c.args.clients.now.items c.in-Some.i c.index_mut-client.result.now c.conn_mut.result.now c.conn_mut.ensures.value c.index_mut-client.ensures.value)) (place_kept c.args.link.0 c.args.clients.now.items c.in-Some.i c.conn_mut.result.now (place_as c.args.link.0 c.args.clients.now.items c.deref.result.now c.in-Some.i c.deref.ensures.value c.in-Some.ensures) (lent_at c.args.clients.now.items c.in-Some.i c.index_mut-client.result.now c.conn_mut.result.now c.conn_mut.ensures.value c.index_mut-client.ensures.value) c.requires.kept.rising)
     (place_removed c.args.link.0 c.args.clients.now.items c.in-Some.i c.conn_mut.result.now (place_as c.args.link.0 c.args.clients.now.items c.deref.result.now c.in-Some.i c.deref.ensures.value c.in-Some.ensures) (lent_at c.args.clients.now.items c.in-Some.i c.index_mut-client.result.now c.conn_mut.result.now c.conn_mut.ensures.value c.index_mut-client.ensures.value) c.requires.kept.rising c.write_for.new.conn c.remove.new.self.items c.remove.ensures.by_index.2) c.requires.backs
-    (stop_closed Stands (DueWrite (FailsFor c.conn_mut.result.now.held.link (seen_as (g.F.Files.disk c.args.files.now) (g.F.Files.faults c.args.files.now) (g.F.Files.failed_read c.args.files.now)) (seen_as (g.F.Files.disk c.finish.new.files) (g.F.Files.faults c.finish.new.files) (g.F.Files.failed_read c.finish.new.files)))) c.args.site.now.root c.conn_mut.result.now.held c.write_for.new.conn.held c.in-Some-write_for.ending g.N.Net.tells g.F.Files.tells (g.F.Files.disk c.args.files.now) (g.F.Files.disk c.write_for.new.files) (g.F.Files.disk c.finish.new.files) (g.N.Net.trace c.args.net.now) (g.N.Net.trace c.write_for.new.net) (g.N.Net.trace c.finish.new.net)
+    (stop_closed Stands (DueWrite (FailsFor c.conn_mut.result.now.held.link (seen_as (g.F.Files.disk c.args.files.now) (g.F.Files.faults c.args.files.now) (g.F.Files.failed_read c.args.files.now)) (seen_as (g.F.Files.disk c.finish.new.files) (g.F.Files.faults c.finish.new.files) (g.F.Files.failed_read c.finish.new.files)))) (served c.args.site.now) c.conn_mut.result.now.held c.write_for.new.conn.held c.in-Some-write_for.ending g.N.Net.tells g.F.Files.tells (g.F.Files.disk c.args.files.now) (g.F.Files.disk c.write_for.new.files) (g.F.Files.disk c.finish.new.files) (g.N.Net.trace c.args.net.now) (g.N.Net.trace c.write_for.new.net) (g.N.Net.trace c.finish.new.net)
     (c.in-Some-write_for.ensures.goes (seen_as (g.F.Files.disk c.finish.new.files) (g.F.Files.faults c.finish.new.files) (g.F.Files.failed_read c.finish.new.files)) c.finish.ensures.faults c.finish.ensures.failed_read)
     (λ t. close_told c.into_conn.result.held.link c.write_for.new.conn.held.link c.in-Some-write_for.ending (g.N.Net.trace c.write_for.new.net) (g.N.Net.trace c.finish.new.net) (ap (λ (k : Connected). k.held.link) (taken_is c.args.clients.now.items c.in-Some.i c.write_for.new.conn c.into_conn.result (place_below c.args.link.0 c.args.clients.now.items c.in-Some.i c.conn_mut.result.now (place_as c.args.link.0 c.args.clients.now.items c.deref.result.now c.in-Some.i c.deref.ensures.value c.in-Some.ensures) (lent_at c.args.clients.now.items c.in-Some.i c.index_mut-client.result.now c.conn_mut.result.now c.conn_mut.ensures.value c.index_mut-client.ensures.value)) (lent_at (set c.args.clients.now.items c.in-Some.i c.write_for.new.conn) c.in-Some.i c.remove.result c.into_conn.result c.into_conn.ensures c.remove.ensures.value))) (c.finish.ensures.trace t))
     (λ f. drops_at c.into_conn.result c.write_for.new.conn (g.F.Files.disk c.write_for.new.files) (g.F.Files.disk c.finish.new.files) (taken_is c.args.clients.now.items c.in-Some.i c.write_for.new.conn c.into_conn.result (place_below c.args.link.0 c.args.clients.now.items c.in-Some.i c.conn_mut.result.now (place_as c.args.link.0 c.args.clients.now.items c.deref.result.now c.in-Some.i c.deref.ensures.value c.in-Some.ensures) (lent_at c.args.clients.now.items c.in-Some.i c.index_mut-client.result.now c.conn_mut.result.now c.conn_mut.ensures.value c.index_mut-client.ensures.value)) (lent_at (set c.args.clients.now.items c.in-Some.i c.write_for.new.conn) c.in-Some.i c.remove.result c.into_conn.result c.into_conn.ensures c.remove.ensures.value)) (c.finish.ensures.drops f))) (omega (arith, c.write_for.ensures.faults, c.finish.ensures.faults))
@@ -69,10 +70,10 @@ returns-clause-table g c is = conns_table (g.N.Net.links c.args.net.now) (g.N.Ne
     (place_removed c.args.link.0 c.args.clients.now.items c.in-Some.i c.conn_mut.result.now (place_as c.args.link.0 c.args.clients.now.items c.deref.result.now c.in-Some.i c.deref.ensures.value c.in-Some.ensures) (lent_at c.args.clients.now.items c.in-Some.i c.index_mut-client.result.now c.conn_mut.result.now c.conn_mut.ensures.value c.index_mut-client.ensures.value) c.requires.kept.rising c.write_for.new.conn c.remove.new.self.items c.remove.ensures.by_index.2) (c.finish.ensures.links ∙ c.write_for.ensures.links) c.requires.known is
 
 pub returns-clause-backs : goal.returns-clause-backs
-returns-clause-backs g c f = conns_backs Writable due_write writable_ready writable_due c.args.link.0 c.args.site.now.root c.args.clients.now.items c.remove.new.self.items c.conn_mut.result.now.held None g.N.Net.tells g.F.Files.tells (seen_as (g.F.Files.disk c.args.files.now) (g.F.Files.faults c.args.files.now) (g.F.Files.failed_read c.args.files.now)) (seen_as (g.F.Files.disk c.finish.new.files) (g.F.Files.faults c.finish.new.files) (g.F.Files.failed_read c.finish.new.files)) (g.N.Net.trace c.args.net.now) (g.N.Net.trace c.finish.new.net)
+returns-clause-backs g c f = conns_backs Writable due_write writable_ready writable_due c.args.link.0 (served c.args.site.now) c.args.clients.now.items c.remove.new.self.items c.conn_mut.result.now.held None g.N.Net.tells g.F.Files.tells (seen_as (g.F.Files.disk c.args.files.now) (g.F.Files.faults c.args.files.now) (g.F.Files.failed_read c.args.files.now)) (seen_as (g.F.Files.disk c.finish.new.files) (g.F.Files.faults c.finish.new.files) (g.F.Files.failed_read c.finish.new.files)) (g.N.Net.trace c.args.net.now) (g.N.Net.trace c.finish.new.net)
     (place_link c.args.link.0 c.args.clients.now.items c.in-Some.i c.conn_mut.result.now (place_as c.args.link.0 c.args.clients.now.items c.deref.result.now c.in-Some.i c.deref.ensures.value c.in-Some.ensures) (lent_at c.args.clients.now.items c.in-Some.i c.index_mut-client.result.now c.conn_mut.result.now c.conn_mut.ensures.value c.index_mut-client.ensures.value)) (place_kept c.args.link.0 c.args.clients.now.items c.in-Some.i c.conn_mut.result.now (place_as c.args.link.0 c.args.clients.now.items c.deref.result.now c.in-Some.i c.deref.ensures.value c.in-Some.ensures) (lent_at c.args.clients.now.items c.in-Some.i c.index_mut-client.result.now c.conn_mut.result.now c.conn_mut.ensures.value c.index_mut-client.ensures.value) c.requires.kept.rising)
     (place_removed c.args.link.0 c.args.clients.now.items c.in-Some.i c.conn_mut.result.now (place_as c.args.link.0 c.args.clients.now.items c.deref.result.now c.in-Some.i c.deref.ensures.value c.in-Some.ensures) (lent_at c.args.clients.now.items c.in-Some.i c.index_mut-client.result.now c.conn_mut.result.now c.conn_mut.ensures.value c.index_mut-client.ensures.value) c.requires.kept.rising c.write_for.new.conn c.remove.new.self.items c.remove.ensures.by_index.2) c.requires.backs
-    (stop_closed Stands (DueWrite (FailsFor c.conn_mut.result.now.held.link (seen_as (g.F.Files.disk c.args.files.now) (g.F.Files.faults c.args.files.now) (g.F.Files.failed_read c.args.files.now)) (seen_as (g.F.Files.disk c.finish.new.files) (g.F.Files.faults c.finish.new.files) (g.F.Files.failed_read c.finish.new.files)))) c.args.site.now.root c.conn_mut.result.now.held c.write_for.new.conn.held c.in-Some-write_for.ending g.N.Net.tells g.F.Files.tells (g.F.Files.disk c.args.files.now) (g.F.Files.disk c.write_for.new.files) (g.F.Files.disk c.finish.new.files) (g.N.Net.trace c.args.net.now) (g.N.Net.trace c.write_for.new.net) (g.N.Net.trace c.finish.new.net)
+    (stop_closed Stands (DueWrite (FailsFor c.conn_mut.result.now.held.link (seen_as (g.F.Files.disk c.args.files.now) (g.F.Files.faults c.args.files.now) (g.F.Files.failed_read c.args.files.now)) (seen_as (g.F.Files.disk c.finish.new.files) (g.F.Files.faults c.finish.new.files) (g.F.Files.failed_read c.finish.new.files)))) (served c.args.site.now) c.conn_mut.result.now.held c.write_for.new.conn.held c.in-Some-write_for.ending g.N.Net.tells g.F.Files.tells (g.F.Files.disk c.args.files.now) (g.F.Files.disk c.write_for.new.files) (g.F.Files.disk c.finish.new.files) (g.N.Net.trace c.args.net.now) (g.N.Net.trace c.write_for.new.net) (g.N.Net.trace c.finish.new.net)
     (c.in-Some-write_for.ensures.goes (seen_as (g.F.Files.disk c.finish.new.files) (g.F.Files.faults c.finish.new.files) (g.F.Files.failed_read c.finish.new.files)) c.finish.ensures.faults c.finish.ensures.failed_read)
     (λ t. close_told c.into_conn.result.held.link c.write_for.new.conn.held.link c.in-Some-write_for.ending (g.N.Net.trace c.write_for.new.net) (g.N.Net.trace c.finish.new.net) (ap (λ (k : Connected). k.held.link) (taken_is c.args.clients.now.items c.in-Some.i c.write_for.new.conn c.into_conn.result (place_below c.args.link.0 c.args.clients.now.items c.in-Some.i c.conn_mut.result.now (place_as c.args.link.0 c.args.clients.now.items c.deref.result.now c.in-Some.i c.deref.ensures.value c.in-Some.ensures) (lent_at c.args.clients.now.items c.in-Some.i c.index_mut-client.result.now c.conn_mut.result.now c.conn_mut.ensures.value c.index_mut-client.ensures.value)) (lent_at (set c.args.clients.now.items c.in-Some.i c.write_for.new.conn) c.in-Some.i c.remove.result c.into_conn.result c.into_conn.ensures c.remove.ensures.value))) (c.finish.ensures.trace t))
     (λ f. drops_at c.into_conn.result c.write_for.new.conn (g.F.Files.disk c.write_for.new.files) (g.F.Files.disk c.finish.new.files) (taken_is c.args.clients.now.items c.in-Some.i c.write_for.new.conn c.into_conn.result (place_below c.args.link.0 c.args.clients.now.items c.in-Some.i c.conn_mut.result.now (place_as c.args.link.0 c.args.clients.now.items c.deref.result.now c.in-Some.i c.deref.ensures.value c.in-Some.ensures) (lent_at c.args.clients.now.items c.in-Some.i c.index_mut-client.result.now c.conn_mut.result.now c.conn_mut.ensures.value c.index_mut-client.ensures.value)) (lent_at (set c.args.clients.now.items c.in-Some.i c.write_for.new.conn) c.in-Some.i c.remove.result c.into_conn.result c.into_conn.ensures c.remove.ensures.value)) (c.finish.ensures.drops f))) f

@@ -4,7 +4,7 @@ use Rattle.server_model.proofs.Growing.{reply_grows}
 use Rattle.server_model.proofs.laws.clients_continue.Goals as goal
 
 pub returns-clause-first : goal.returns-clause-first
-returns-clause-first c world k bytes rest head front = continue_first bytes rest head front world k
+returns-clause-first c world k bytes rest head front = continue_first world bytes rest head front k
 
 pub returns-clause-waits : goal.returns-clause-waits
 returns-clause-waits c world k head = refl

@@ -1,5 +1,5 @@
 use Rattle.std.proofs.Common.{refl}
-use Rattle.server_model.proofs.Persisting.{last_is, passed_below}
+use Rattle.server_model.proofs.Persisting.{last_is, passed_below, passed_unreached}
 use Rattle.server_model.proofs.laws.connections_end.Goals as goal
 
 pub returns-clause-asked : goal.returns-clause-asked
@@ -13,3 +13,6 @@ returns-clause-refused c world k status = refl
 
 pub returns-clause-limit : goal.returns-clause-limit
 returns-clause-limit c world input before k = passed_below world input k before
+
+pub returns-clause-unreached : goal.returns-clause-unreached
+returns-clause-unreached c = passed_unreached

@@ -4,7 +4,7 @@ use Rattle.server_model.proofs.Requests.{complete_grows, rest_grows, declined_gr
 use Rattle.server_model.proofs.laws.requests_stay.Goals as goal
 
 pub returns-clause-complete : goal.returns-clause-complete
-returns-clause-complete c bytes more head content is = (complete_grows bytes more head content is, rest_grows bytes more (ap is_complete is))
+returns-clause-complete c limits bytes more head content is = (complete_grows limits bytes more head content is, rest_grows limits bytes more (ap is_complete is))
 
 pub returns-clause-declined : goal.returns-clause-declined
 returns-clause-declined c = declined_grows

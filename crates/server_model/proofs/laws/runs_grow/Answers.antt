@@ -7,7 +7,7 @@ pub returns-clause-grows : goal.returns-clause-grows
 returns-clause-grows c = run_grows
 
 pub returns-clause-faults : goal.returns-clause-faults
-returns-clause-faults c root before after run client = run_ends root before after run client ending.FileFault
+returns-clause-faults c site before after run client = run_ends site before after run client ending.FileFault
 
 pub returns-clause-endings : goal.returns-clause-endings
 returns-clause-endings c = run_ends
