@@ -9,6 +9,9 @@ use crate::file_segment::read_front;
 use buffer_pool::{BUFFER_SIZE, ChunkList, Kind, Pool};
 use lt_world::{Fault, FileId, Files, Owner};
 
+// Ranges up to this size are read through a small buffer.
+const SMALL_SIZE: usize = 512;
+
 /// Reads the first bytes of a range that stands first and of which nothing is staged, by one read.
 pub(crate) fn stage_front<F: Files>(
     chunks: &mut ChunkList,
@@ -37,6 +40,17 @@ pub(crate) fn stage_front<F: Files>(
     let Some((file, start, n)) = unread_front(chunks) else {
         return Ok(());
     };
+    // Zeros are written only for what is read, where that is little.
+    if n <= SMALL_SIZE {
+        let mut buffer = [0u8; SMALL_SIZE];
+        return match read_front(&mut buffer, n, files, owner, FileId(file), start) {
+            Ok(()) => {
+                chunks.put_front(pool, &buffer[..n]);
+                Ok(())
+            }
+            Err(fault) => Err(fault),
+        };
+    }
     let mut buffer = [0u8; BUFFER_SIZE];
     match read_front(&mut buffer, n, files, owner, FileId(file), start) {
         Ok(()) => {

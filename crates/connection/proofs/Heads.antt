@@ -38,7 +38,7 @@ looked_in_front most bytes end.TooLarge within = refl
 looked_in_front most bytes (end.At n) within = ap (λ (l : List ℕ). looked_by n (head_of l)) (take-take n most bytes (omega (arith, within.1, length-take most bytes)))
 
 -- what was found is what the bytes begin with
-front_found : (e : HeadEnd) (bytes : List ℕ) → front_at e bytes ≡ front_with (looked_at e bytes) (drop (taken_in (looked_at e bytes)) bytes)
+pub front_found : (e : HeadEnd) (bytes : List ℕ) → front_at e bytes ≡ front_with (looked_at e bytes) (drop (taken_in (looked_at e bytes)) bytes)
 front_found end.NotYet bytes = refl
 front_found end.TooLarge bytes = refl
 front_found (end.At n) bytes = by (head_of (take n bytes))
@@ -47,7 +47,7 @@ front_found (end.At n) bytes = by (head_of (take n bytes))
     by (Err refused) = refl
     by (Ok head) = refl
 
-taken_within : (e : HeadEnd) (len : ℕ) (bytes : List ℕ) → IsWithin len e → taken_in (looked_at e bytes) ≤ len
+pub taken_within : (e : HeadEnd) (len : ℕ) (bytes : List ℕ) → IsWithin len e → taken_in (looked_at e bytes) ≤ len
 taken_within end.NotYet len bytes within = omega arith
 taken_within end.TooLarge len bytes within = omega arith
 taken_within (end.At n) len bytes within = by (head_of (take n bytes))

@@ -4,3 +4,4 @@ pub mod Heads
 pub mod Rests
 pub mod Feeding
 pub mod Replying
+pub mod Fronts

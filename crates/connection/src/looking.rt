@@ -108,13 +108,26 @@ fn found(alloc: Global, bytes: &[u8]) -> Result<Looked, NoMemory>
     }
 }
 
-/// Looks at what came, and takes nothing of it.
-pub(crate) fn look(alloc: Global, input: &Chunks) -> Result<Looked, NoMemory>
+/// The same of what doesn't stand in one chunk.
+fn gathered(alloc: Global, input: &Chunks) -> Result<Looked, NoMemory>
     ensures looked { IfOk result (IsLooked (memory_front (items_of input.now))) }
 {
     let mut bytes = [0; HEAD_LIMIT];
     let count = input.peek(&mut bytes);
     found(alloc, &bytes[..count])
+}
+
+/// Looks at what came, and takes nothing of it. Mostly the first chunk has the head, and nothing is copied.
+pub(crate) fn look(alloc: Global, input: &Chunks) -> Result<Looked, NoMemory>
+    requires memory { is_in_memory (items_of input.now) ≡ true }
+    ensures looked { IfOk result (IsLooked (memory_front (items_of input.now))) }
+{
+    let front = input.front_bytes();
+    match head_end(front) {
+        HeadEnd::At(n) => judged(alloc, &front[..n]),
+        HeadEnd::NotYet if front.len() as u64 == input.len() => Ok(Looked::Unfinished),
+        HeadEnd::NotYet | HeadEnd::TooLarge => gathered(alloc, input),
+    }
 }
 
 /// Takes the first bytes off.

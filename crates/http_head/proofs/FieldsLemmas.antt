@@ -5,7 +5,7 @@ use Rattle.std.proofs.lemmas.List.{get_or-map, take_more, map-append, length-app
 use Rattle.std.proofs.lemmas.List.Elements.{All-push}
 use Rattle.std.proofs.lemmas.List.Sums.{fold_push, sum_by-cons}
 use Rattle.http_header.specs.HeaderMap.{Entry, Entries, append, update, value_count}
-use Rattle.http_header.specs.FieldValue.{FieldValue}
+use Rattle.http_header.specs.FieldValue.{FieldValue, IsFieldValue}
 use Rattle.httparse.specs.declared.spans.HeaderSpan.{HeaderSpan}
 use Rattle.httparse.specs.Spans.{header_bytes, span_bytes}
 use Rattle.http_head.specs.Fields.{IsFilled, Pair, kept, IsTaken, map_of}
@@ -72,3 +72,24 @@ refused buf hs i d name value h en ev never all =
     let inside : i < length (map (header_bytes buf) hs) = rw length-map h in
     let at : get_or (map (header_bytes buf) hs) i p ≡ p = pair_at buf hs i d p h ∙ cc in
     never (subst IsTaken at (all i p inside))
+
+-- one more header, of which the map has the parts of a copy of the bytes
+pub IsFilled-next : (values buf : List ℕ) (hs : List HeaderSpan) (i : ℕ) (d : HeaderSpan) (m m' : Entries FieldValue) (found : List ℕ × FieldValue)
+    → i < length hs → values ≡ buf → IsFilled (map (header_bytes buf) hs) i m → IsTaken (header_bytes values (get_or hs i d))
+    → found ≡ kept (header_bytes values (get_or hs i d)) → m' ≡ append m found.0 found.1 → IsFilled (map (header_bytes buf) hs) (i + 1) m'
+IsFilled-next values buf hs i d m m' found h same filled taken ef em =
+    let s = get_or hs i d in
+    IsFilled-step buf hs i d m m' found (span_bytes values s.name) (span_bytes values s.value) h
+    (ap (λ b. span_bytes b s.name) same) (ap (λ b. span_bytes b s.value) same) filled taken ef em
+
+-- a header of such a copy that is not taken is one of them
+pub refused_part : (values buf : List ℕ) (hs : List HeaderSpan) (i : ℕ) (d : HeaderSpan) → i < length hs → values ≡ buf
+    → ¬ (IsTaken (header_bytes values (get_or hs i d))) → ¬ (All IsTaken (map (header_bytes buf) hs))
+refused_part values buf hs i d h same never =
+    let s = get_or hs i d in
+    refused buf hs i d (span_bytes values s.name) (span_bytes values s.value) h (ap (λ b. span_bytes b s.name) same) (ap (λ b. span_bytes b s.value) same) never
+
+-- the value of a header of such a copy
+pub value_at : (values buf : List ℕ) (hs : List HeaderSpan) (i : ℕ) (d : HeaderSpan) → values ≡ buf → i < length hs
+    → All (λ (h : HeaderSpan). IsFieldValue (span_bytes buf h.value)) hs → IsFieldValue (span_bytes values (get_or hs i d).value)
+value_at values buf hs i d same h valid = subst (λ (b : List ℕ). IsFieldValue (span_bytes b (get_or hs i d).value)) (sym same) (valid i d h)

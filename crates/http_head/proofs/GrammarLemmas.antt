@@ -23,7 +23,7 @@ token_starts b t =
     let n : is_newline b ≡ false = token_is_no_newline b t in
     (λ e. absurd (false≢true (sym n ∙ ap is_newline e)), λ e. absurd (false≢true (sym n ∙ ap is_newline e)))
 
-token_in_line : (b : ℕ) → IsTrue (is_token_byte b) → InLine b
+pub token_in_line : (b : ℕ) → IsTrue (is_token_byte b) → InLine b
 token_in_line b t = (token_starts b t).0
 
 uri_in_line : (b : ℕ) → IsTrue (is_uri_byte b) → InLine b
@@ -100,7 +100,7 @@ after_blank-blank [] m ms s = after_blank-here m ms s
 after_blank-blank (crlf ∷ ends) m ms s = after_blank-blank ends m ms s
 after_blank-blank (lf ∷ ends) m ms s = after_blank-lf (print_blank ends ++ (m ∷ ms)) ∙ after_blank-blank ends m ms s
 
-after_blank-token : (ends : List LineEnd) (name more : List ℕ) → 0 < length name → AllPass is_token_byte name → after_blank (print_blank ends ++ (name ++ more)) ≡ name ++ more
+pub after_blank-token : (ends : List LineEnd) (name more : List ℕ) → 0 < length name → AllPass is_token_byte name → after_blank (print_blank ends ++ (name ++ more)) ≡ name ++ more
 after_blank-token ends [] more h pass = absurd (omega arith)
 after_blank-token ends (m ∷ ms) more h pass = after_blank-blank ends m (ms ++ more) (token_starts m (All-head (λ b. IsTrue (is_token_byte b)) m ms pass))
 
@@ -113,7 +113,7 @@ version_in_line n =
     All-from_recursion InLine (32 ∷ print_version n)
     (late 32 (omega arith), (late 72 (omega arith), (late 84 (omega arith), (late 84 (omega arith), (late 80 (omega arith), (late 47 (omega arith), (late 49 (omega arith), (late 46 (omega arith), (late (48 + n) (omega arith), tt)))))))))
 
-rest_in_line : (h : RequestHead) → IsRequestHead h → All InLine (rest_of_line h)
+pub rest_in_line : (h : RequestHead) → IsRequestHead h → All InLine (rest_of_line h)
 rest_in_line h v =
     All-cons InLine 32 (h.target ++ 32 ∷ print_version h.minor) (late 32 (omega arith))
     (All-append InLine h.target (32 ∷ print_version h.minor)

@@ -10,3 +10,5 @@ pub mod HeadLemmas
 pub mod EndLemmas
 pub mod FramingLemmas
 pub mod OptionLemmas
+mod SharedLemmas
+mod VersionLemmas

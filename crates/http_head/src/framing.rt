@@ -5,7 +5,7 @@ ghost use Rattle.http_head.specs.Framing.{is_chunked, framing_of, length_of};
 
 use crate::fields::{count_of, first_of};
 use crate::refusal::HeadRefusal;
-use http_header::{HeaderMap, HeaderValue};
+use http_header::{CONTENT_LENGTH, HeaderMap, HeaderValue, TRANSFER_ENCODING};
 use lt_bytes::{Number, read_decimal, same_word};
 
 /// How long the body of a request is.
@@ -39,18 +39,18 @@ fn length_of(value: &[u8]) -> Result<Framing, HeadRefusal>
 pub(crate) fn framing_of(minor: u8, fields: &HeaderMap<HeaderValue>) -> Result<Framing, HeadRefusal>
     ensures { result ≡ framing_of minor fields.now }
 {
-    let codings = count_of(fields, "transfer-encoding");
-    let lengths = count_of(fields, "content-length");
+    let codings = count_of(fields, &TRANSFER_ENCODING);
+    let lengths = count_of(fields, &CONTENT_LENGTH);
     if codings > 0 {
         if lengths > 0 || minor == 0 {
             return Err(HeadRefusal::BadHead);
         }
-        return match first_of(fields, "transfer-encoding") {
+        return match first_of(fields, &TRANSFER_ENCODING) {
             Some(coding) if codings == 1 && is_chunked(coding) => Ok(Framing::Chunked),
             _ => Err(HeadRefusal::NotImplemented),
         };
     }
-    match first_of(fields, "content-length") {
+    match first_of(fields, &CONTENT_LENGTH) {
         Some(value) if lengths == 1 => length_of(value),
         Some(_) => Err(HeadRefusal::BadHead),
         None => Ok(Framing::None),

@@ -1,5 +1,5 @@
 //! What a whole request head says.
-ghost use Rattle.std.specs.Prelude.{◌≤◌, length, IfSome, IfNone};
+ghost use Rattle.std.specs.Prelude.{◌≡◌, ◌≤◌, length, Err, IfSome, IfNone};
 ghost use Rattle.httparse.specs.Grammar.{HasNoRequest};
 ghost use Rattle.httparse.specs.Spans.{IsRequestWithin, IsRequestOf};
 ghost use Rattle.http_head.specs.Lines.{field_lines};
@@ -48,10 +48,9 @@ pub struct Request {
 
 /// The spans of the head that the grammar reads, where there is room for its fields.
 fn parsed(head: &[u8], spans: &mut [HeaderSpan]) -> Option<RequestSpans>
-    requires room { field_lines head.now ≤ length spans.old }
     ensures within { IfSome result (IsRequestWithin head.now spans.new) }
     ensures some { IfSome result (IsRequestOf head.now spans.new) }
-    ensures none { IfNone result (HasNoRequest head.now) }
+    ensures none { IfNone result (field_lines head.now ≤ length spans.old → HasNoRequest head.now) }
 {
     match parse_request(head, spans) {
         Ok(Status::Complete(found)) => Some(found),
@@ -104,21 +103,30 @@ fn judged(
     })
 }
 
+/// Why a head is refused that the grammar does not read.
+fn unread(head: &[u8]) -> HeadRefusal
+    requires none { field_lines head.now ≤ FIELD_LINE_LIMIT → HasNoRequest head.now }
+    ensures { head_of head.now ≡ Err result }
+{
+    if field_lines(head) > FIELD_LINE_LIMIT {
+        HeadRefusal::TooLarge
+    } else if ends_in_other_version(start_line(head)) {
+        HeadRefusal::BadVersion
+    } else {
+        HeadRefusal::BadHead
+    }
+}
+
 /// What a whole head says, or the first reason to refuse it: more field lines than the limit;
 /// another version; a head that the grammar does not read; the wrong number of Host fields; a body
 /// framed in two ways, in an unknown way, or by no number; CONNECT; a bad target.
 pub fn read_head(alloc: Global, head: &[u8]) -> Result<Request, HeadRefusal>
     ensures { Says (head_of head.now) result }
 {
-    if field_lines(head) > FIELD_LINE_LIMIT {
-        return Err(HeadRefusal::TooLarge);
-    }
-    if ends_in_other_version(start_line(head)) {
-        return Err(HeadRefusal::BadVersion);
-    }
+    // A head that is read has no more field lines than there is room for, and its version is known.
     let mut spans = [EMPTY_HEADER_SPAN; FIELD_LINE_LIMIT];
     let Some(found) = parsed(head, &mut spans) else {
-        return Err(HeadRefusal::BadHead);
+        return Err(unread(head));
     };
     let fields = match read_fields(alloc, head, &spans[..found.headers]) {
         Ok(fields) => fields,

@@ -3,7 +3,7 @@ ghost use Rattle.std.specs.Prelude.{◌≡◌, IfOk};
 ghost use Rattle.http_head.specs.Host.{has_bad_host, host_field_of, without_port, host_of};
 
 use crate::fields::{count_of, first_of};
-use http_header::{HeaderMap, HeaderValue};
+use http_header::{HOST, HeaderMap, HeaderValue};
 use http_target::authority;
 use lt_bytes::{NoMemory, Text, lower};
 use std::alloc::Global;
@@ -12,7 +12,7 @@ use std::alloc::Global;
 pub(crate) fn has_bad_host(minor: u8, fields: &HeaderMap<HeaderValue>) -> bool
     ensures { result ≡ has_bad_host minor fields.now }
 {
-    let hosts = count_of(fields, "host");
+    let hosts = count_of(fields, &HOST);
     hosts > 1 || (minor == 1 && hosts == 0)
 }
 
@@ -22,7 +22,7 @@ pub(crate) fn host_field<'m>(sent: &'m [u8], fields: &'m HeaderMap<HeaderValue>)
 {
     match authority(sent) {
         Some(found) => found,
-        None => match first_of(fields, "host") {
+        None => match first_of(fields, &HOST) {
             Some(value) => value,
             None => &[],
         },
@@ -48,8 +48,9 @@ fn without_port(field: &[u8]) -> &[u8]
 pub(crate) fn host(alloc: Global, field: &[u8]) -> Result<Text, NoMemory>
     ensures { IfOk result (λ text. text ≡ host_of field.now) }
 {
-    let mut text = Text::new(alloc);
-    for byte in without_port(field) {
+    let name = without_port(field);
+    let mut text = Text::with_capacity(alloc, name.len())?;
+    for byte in name {
         text.push(lower(*byte))?;
     }
     Ok(text)

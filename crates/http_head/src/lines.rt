@@ -4,6 +4,8 @@ ghost use Rattle.std.specs.List.{before_first};
 ghost use Rattle.std.specs.Str.Lines.{strip_carriage_return};
 ghost use Rattle.http_head.specs.Lines.{empty_line, after_blank, length_to_end, lines_to_end, field_lines, start_line, is_other_version, ends_in_other_version};
 
+use memchr::memchr;
+
 /// The length of the empty line at the front, LF or CR LF; 0 where none is there.
 fn empty_line(bytes: &[u8]) -> usize
     ensures { result ≡ empty_line bytes.now }
@@ -35,12 +37,12 @@ pub(crate) fn length_to_end(bytes: &[u8]) -> Option<usize>
     ensures value { result ≡ length_to_end bytes.now }
     ensures within { IfSome result (λ n. (0 < n) × (n ≤ length bytes.now)) }
 {
-    for i in 0..bytes.len() {
-        if bytes[i] == b'\n' {
-            let n = empty_line(&bytes[i + 1..]);
-            if n > 0 {
-                return Some(i + 1 + n);
-            }
+    let mut at = 0;
+    while let Some(n) = memchr(b'\n', &bytes[at..]) {
+        at += n + 1;
+        let empty = empty_line(&bytes[at..]);
+        if empty > 0 {
+            return Some(at + empty);
         }
     }
     None

@@ -5,7 +5,7 @@ ghost use Rattle.http_header.specs.HeaderMap.{get_all};
 ghost use Rattle.lt_bytes.specs.Words.{same_word};
 ghost use Rattle.http_head.specs.Options.{lists, has_option, closes, expects};
 
-use http_header::{HeaderMap, HeaderValue};
+use http_header::{CONNECTION, EXPECT, HeaderMap, HeaderValue};
 use lt_bytes::{same_word, trim};
 
 /// Whether a piece between the commas is the word.
@@ -22,7 +22,7 @@ fn has_option(fields: &HeaderMap<HeaderValue>, word: &[u8]) -> bool
     ensures { result ≡ has_option fields.now word.now }
 {
     fields
-        .get_all("connection")
+        .get_all(&CONNECTION)
         .iter()
         .any(|value| lists(word, value.as_bytes()))
 }
@@ -45,7 +45,7 @@ pub(crate) fn expects(minor: u8, fields: &HeaderMap<HeaderValue>) -> bool
 fn asks_to_continue(fields: &HeaderMap<HeaderValue>) -> bool
     ensures { result ≡ list_any (λ v. same_word v.bytes (codes "100-continue")) (get_all fields.now (codes "expect")) }
 {
-    fields.get_all("expect").iter().any(|value| same_word(
+    fields.get_all(&EXPECT).iter().any(|value| same_word(
         value.as_bytes(),
         b"100-continue".as_slice(),
     ))

@@ -52,10 +52,11 @@ fn names_of<'a>(alloc: Global, path: &'a [u8]) -> Result<(Vec<&'a [u8]>, bool), 
     Ok((kept, is_open(last)))
 }
 
-fn spell(alloc: Global, names: &[&[u8]], directory: bool) -> Result<Text, NoMemory>
+// Room for so many bytes is taken at once.
+fn spell(alloc: Global, names: &[&[u8]], directory: bool, room: usize) -> Result<Text, NoMemory>
     ensures { IfOk result (λ text. text ≡ spell (map (λ s. s.now) names.now) directory) }
 {
-    let mut text = Text::new(alloc);
+    let mut text = Text::with_capacity(alloc, room)?;
     for name in names {
         text.push_all(b"/".as_slice())?;
         text.push_all(*name)?;
@@ -72,5 +73,5 @@ pub fn normal(alloc: Global, path: &[u8]) -> Result<Text, NoMemory>
     ensures { IfOk result (λ text. text ≡ normal path.now) }
 {
     let (names, directory) = names_of(alloc, path)?;
-    spell(alloc, names.as_slice(), directory)
+    spell(alloc, names.as_slice(), directory, path.len().max(1))
 }

@@ -66,7 +66,8 @@ fn open<F: Files>(place: &[u8], files: &mut F, owner: Owner) -> Planned
 fn place_of(alloc: Global, root: &[u8], path: &[u8]) -> Result<Text, NoMemory>
     ensures { IfOk result (λ place. place ≡ root.now ++ path.now) }
 {
-    let mut place = Text::from_bytes(alloc, root)?;
+    let mut place = Text::with_capacity(alloc, root.len().saturating_add(path.len()))?;
+    place.push_all(root)?;
     place.push_all(path)?;
     Ok(place)
 }

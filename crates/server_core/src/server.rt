@@ -17,7 +17,7 @@ use crate::site::Site;
 use crate::step::release;
 use crate::table::{Arrival, accept_on, read_on, write_on};
 use crate::turn::Turn;
-use chunkqueue::Store;
+use chunkqueue::{BUFFER_SIZE, Store};
 use lt_bytes::{NoMemory, Text};
 use lt_world::{Event, Files, Net};
 use std::alloc::Global;
@@ -28,6 +28,8 @@ pub struct Server {
     site: Site,
     clients: Vec<Client>,
     store: Store,
+    // What a read brings, before it is kept.
+    scratch: Box<[u8; BUFFER_SIZE]>,
 }
 
 impl Model for Server {
@@ -51,6 +53,10 @@ impl Server {
         ensures backs { IfOk result (λ server. (disk : Disk) → Backs disk.table server.table) }
         ensures serves { IfOk result (λ server. (disk : Disk) → disk.calls ≡ [] → ((file : ℕ) → disk.table file ≡ None) → Serves disk (serving_at server) []) }
     {
+        let scratch = match Box::new(alloc, [0; BUFFER_SIZE]) {
+            Ok(scratch) => scratch,
+            Err(_) => return Err(NoMemory),
+        };
         Ok(Server {
             site: Site {
                 alloc,
@@ -59,6 +65,7 @@ impl Server {
             },
             clients: Vec::new(alloc),
             store: Store::new(alloc),
+            scratch,
         })
     }
 
@@ -109,6 +116,7 @@ impl Server {
                     &mut self.clients,
                     &self.site,
                     &mut self.store,
+                    &mut self.scratch,
                     net,
                     files,
                     link,
@@ -146,6 +154,7 @@ impl Server {
             site: _,
             mut clients,
             mut store,
+            scratch: _,
         } = self;
         give_back(&mut clients, &mut store, files);
         clients.destroy_empty();

@@ -69,6 +69,7 @@ pub(crate) fn read_for<N: Net, F: Files>(
     conn: &mut Conn,
     site: &Site,
     store: &mut Store,
+    scratch: &mut [u8; BUFFER_SIZE],
     net: &mut N,
     files: &mut F,
 ) -> Option<Ending>
@@ -98,14 +99,13 @@ pub(crate) fn read_for<N: Net, F: Files>(
     if room == 0 {
         return None;
     }
-    let mut buf = [0; BUFFER_SIZE];
     receive(
         conn,
         site,
         store,
         net,
         files,
-        &mut buf[..room.min(BUFFER_SIZE)],
+        &mut scratch[..room.min(BUFFER_SIZE)],
     )
 }
 

@@ -99,6 +99,7 @@ pub(crate) fn read_on<N: Net, F: Files>(
     clients: &mut Vec<Client>,
     site: &Site,
     store: &mut Store,
+    scratch: &mut [u8; BUFFER_SIZE],
     net: &mut N,
     files: &mut F,
     link: Link,
@@ -127,7 +128,7 @@ pub(crate) fn read_on<N: Net, F: Files>(
         return;
     };
     let client = &mut clients[i];
-    let Some(ending) = read_for(client.conn_mut(), site, store, net, files) else {
+    let Some(ending) = read_for(client.conn_mut(), site, store, scratch, net, files) else {
         return;
     };
     finish(clients.remove(i).into_conn(), store, net, files, ending);

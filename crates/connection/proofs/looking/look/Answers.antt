@@ -1,11 +1,16 @@
-use Rattle.http_head.specs.declared.limits.TheConstants.{HEAD_LIMIT}
-use Rattle.chunkqueue.specs.Items.{memory_front, items_of}
-use Rattle.connection.proofs.Heads.{peeked, is_looked}
+use Rattle.std.proofs.Common.{sym, ◌∙◌, refl}
+use Rattle.chunkqueue.specs.Items.{items_of, staged_of}
+use Rattle.connection.proofs.Fronts.{looked_first, none_first}
 use Rattle.connection.proofs.looking.look.Goals as goal
 
-pub returns : goal.returns
-returns c = record {
-  looked = is_looked (memory_front (items_of c.args.input.now)) _ c.found.result
-      (peeked c.peek-count.new.buf (memory_front (items_of c.args.input.now)) c.peek-count.result HEAD_LIMIT c.peek-count.ensures.count c.peek-count.ensures.bytes)
-      c.found.ensures.found c.found.ensures.within;
+pub returns-in-At : goal.returns-in-At
+returns-in-At c = record {
+  looked = looked_first (items_of c.args.input.now) (staged_of c.args.input.now) c.front_bytes-front.result.now _ c.in-At.n c.judged.result
+      c.front_bytes-front.ensures.leads c.requires.memory c.in-At.ensures.value c.in-At.ensures.within refl c.judged.ensures;
+}
+
+pub returns-in-NotYet : goal.returns-in-NotYet
+returns-in-NotYet c = record {
+  looked = none_first (items_of c.args.input.now) (staged_of c.args.input.now) c.front_bytes-front.result.now c.front_bytes-front.ensures.leads c.requires.memory
+      (c.if-front-len.true ∙ c.len.ensures.count) (sym c.in-NotYet.ensures.value);
 }

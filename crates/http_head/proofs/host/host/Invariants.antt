@@ -3,4 +3,4 @@ use Rattle.std.specs.Char.{to_ascii_lowercase}
 use Rattle.http_head.proofs.host.host.Given as goal
 
 abbrev pub invariant-loop-byte : goal.invariant-loop-byte
-invariant-loop-byte l = l.text ≡ map to_ascii_lowercase (take l.byte-index l.byte-items)
+invariant-loop-byte l = l.text ≡ map to_ascii_lowercase (take l.byte-index l.name)
