@@ -1,7 +1,7 @@
 -- Items that are all bytes in memory.
-use Rattle.std.proofs.Common.{◌≡◌, ℕ, zero, suc, ◌≤◌, ◌-◌, true, List, [], ◌∷◌, ◌++◌, length, map, drop, refl, ap, ◌∙◌, arith}
+use Rattle.std.proofs.Common.{◌≡◌, ℕ, zero, suc, ◌+◌, ◌≤◌, ◌-◌, true, List, [], ◌∷◌, ◌++◌, length, map, drop, refl, ap, ◌∙◌, arith}
 use Rattle.std.proofs.lemmas.List.{drop-drop, length-drop}
-use Rattle.chunkqueue.specs.Items.{Item, Byte, FileByte, memory_front}
+use Rattle.chunkqueue.specs.Items.{Item, Byte, FileByte, Contents, items_of, count_of, memory_front}
 use Rattle.server_model.specs.Steps.{is_in_memory}
 
 pub memory_more : (items : List Item) (bytes : List ℕ) → is_in_memory items ≡ true → is_in_memory (items ++ map Byte bytes) ≡ true
@@ -21,6 +21,11 @@ pub front_length : (items : List Item) → is_in_memory items ≡ true → lengt
 front_length [] is = refl
 front_length (Byte b ∷ items) is = ap suc (front_length items is)
 front_length (FileByte file at ∷ items) is = cc
+
+-- what is put into buffers is no more than what leaves the input
+pub fills_less : (before after : ℕ) (was : List ℕ) (input input' : Contents) → memory_front (items_of input) ≡ was → is_in_memory (items_of input) ≡ true → is_in_memory (items_of input') ≡ true → after + count_of input' ≤ before + count_of input
+    → after + length (memory_front (items_of input')) ≤ before + length was
+fills_less before after was input input' is memory memory' paid = omega (arith, ap length is, front_length (items_of input) memory, front_length (items_of input') memory', paid)
 
 pub memory_dropped : (n : ℕ) (items : List Item) → is_in_memory items ≡ true → is_in_memory (drop n items) ≡ true
 memory_dropped zero items is = is

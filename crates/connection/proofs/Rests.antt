@@ -13,7 +13,9 @@ use Rattle.connection.specs.declared.progress.Progress.{Progress}
 use Rattle.connection.specs.declared.progress.Progress.TheVariants as progress
 use Rattle.connection.specs.declared.looking.Looked.{Looked}
 use Rattle.connection.specs.declared.looking.Looked.TheVariants as found
-use Rattle.connection.specs.Inside.{stage_by, IsAt, IsContentAt}
+use Rattle.connection.specs.Connection.{Connected}
+use Rattle.connection.specs.Inside.{connected_of, stage_by, IsAt, IsContentAt, IsConn}
+use Rattle.connection.specs.declared.connection.Conn.TheInside.{Inside}
 use Rattle.connection.specs.Stages.{next_number_at}
 use Rattle.connection.specs.Looking.{front_with, taken_in, progress_of, IsLooked}
 use Rattle.connection.proofs.Memory.{memory_more, front_more, front_length, memory_dropped, front_dropped}
@@ -26,6 +28,9 @@ room_most held = by (is_read_at held.stage && not held.ended)
     by : (t : Bool) → cond t (input_limit - length held.input) 0 ≤ input_limit - length held.input
     by true = omega arith
     by false = omega arith
+
+pub held_short : (c : Inside) (now : Connected) → IsConn c → connected_of c ≡ now → length now.held.input ≤ input_limit
+held_short c now is view = omega (arith, ap (λ (x : Connected). length x.held.input) view, front_length (items_of c.input) is.memory, is.within)
 
 -- bytes for which there is room
 pub room_within : (held : Held) (input : Contents) (n : ℕ) → memory_front (items_of input) ≡ held.input → is_in_memory (items_of input) ≡ true → count_of input ≤ input_limit → n ≤ room_of held

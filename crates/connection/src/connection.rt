@@ -149,9 +149,13 @@ impl Conn {
         ensures stage { IfOk result (λ stage. stage ≡ stage_of self.new.held) }
         ensures err { OnErr result (IsHeldUp self.old.held self.new.held × (looks self.old.held ≡ true)) }
         ensures exact { OnErr result (is_taking self.old.held.stage ≡ false → self.new ≡ self.old) }
-        ensures filled { store.new.filled ≤ store.old.filled + INPUT_LIMIT }
+        // A byte is put into a buffer once at most as it leaves the input.
+        ensures filled { store.new.filled + length self.new.held.input ≤ store.old.filled + length self.old.held.input }
+        ensures within { length self.old.held.input ≤ INPUT_LIMIT }
         ensures kept { Kept store.old self.old.numbers store.new self.new.numbers }
     {
+        // What is held is short: a look at it brings the invariant.
+        let _ = &self.input;
         if let Some(number) = self.next_number() {
             return self.take_up(store, number);
         }
@@ -183,7 +187,7 @@ impl Conn {
         requires feeds { feeds self.old.held ≡ true }
         ensures ok { OnOk result (self.new.held ≡ advanced self.old.held) }
         ensures err { OnErr result (IsHeldUp self.old.held self.new.held) }
-        ensures filled { store.new.filled ≤ store.old.filled + INPUT_LIMIT }
+        ensures filled { store.new.filled + length self.new.held.input ≤ store.old.filled + length self.old.held.input }
         ensures kept { Kept store.old self.old.numbers store.new self.new.numbers }
     {
         if self.body.len() >= CONTENT_LIMIT {
@@ -241,7 +245,7 @@ impl Conn {
         ensures ok { OnOk result (self.new.held ≡ looked number self.old.held) }
         ensures stage { IfOk result (λ stage. stage ≡ stage_of self.new.held) }
         ensures err { OnErr result (self.new ≡ self.old) }
-        ensures filled { store.new.filled ≡ store.old.filled }
+        ensures filled { store.new.filled + length self.new.held.input ≤ store.old.filled + length self.old.held.input }
         ensures kept { Kept store.old self.old.numbers store.new self.new.numbers }
     {
         let found = look(self.alloc, &self.input)?;

@@ -333,3 +333,14 @@ module _ (held : Held) (limit : ℕ) where
   pub accepted_reads : IsHeaded held.stage → stage_of (advanced (accepted held limit)) ≡ next.Head → ⊥
   accepted_reads at = accepted_by (λ s h. stage_of (advanced h) ≡ next.Head → ⊥)
       (λ k head. let s = begin head.framing limit in fed_reads k head (answer_from (standing_after s held.input).state) (standing_after s held.input) ([] ++ data_in s held.input) (accepted_at (Heading k head) limit held).owed held.ended) at
+
+-- a body is accepted before a further byte of it is taken
+pub accepted_input : (held : Held) (limit : ℕ) → (accepted held limit).input ≡ held.input
+accepted_input held limit = by held.stage
+  where
+    by : (s : Stage) → (accepted_at s limit held).input ≡ held.input
+    by (Awaiting k) = refl
+    by (Heading k head) = refl
+    by (Taking k head s content) = refl
+    by (Asking k r) = refl
+    by (Answering k last) = refl

@@ -32,9 +32,9 @@ use lt_world::{Ending, FileId, Files};
 // Bytes that are copied into buffers for a reply, at most: its head, and those of two chunks of its body.
 const REPLY_FILL: usize = REPLY_LIMIT + 2 * BUFFER_SIZE;
 
-/// Bytes that are copied into buffers for what follows a read or a write, at most: what is held of the input, once before a
-/// head is there and once behind it, what is told of a body that is waited for, and a reply.
-pub(crate) const SETTLE_FILL: usize = INPUT_LIMIT + INPUT_LIMIT + 25 + REPLY_FILL;
+/// Bytes that are copied into buffers for what follows a read or a write, at most: what is held of the input, once, what is
+/// told of a body that is waited for, and a reply.
+pub(crate) const SETTLE_FILL: usize = INPUT_LIMIT + 25 + REPLY_FILL;
 
 /// Takes the next step that the bytes which came allow, and answers the request that is there then. Answers how the client
 /// is to be closed, where it is.
@@ -79,7 +79,7 @@ fn read_body<F: Files>(
     ensures settles { SettlesTo true (served site.now) conn.old.held conn.new.held result F.tells (F.disk files.old) (F.disk files.new) }
     ensures link { conn.new.held.link ≡ conn.old.held.link }
     ensures waits { WaitsOn result conn.new.held }
-    ensures filled { store.new.filled ≤ store.old.filled + INPUT_LIMIT + 25 + REPLY_FILL }
+    ensures filled { store.new.filled ≤ store.old.filled + length conn.old.held.input + 25 + REPLY_FILL }
     ensures kept { Kept store.old conn.old.numbers store.new conn.new.numbers }
     ensures faults { F.faults files.old ≤ F.faults files.new }
     ensures later { F.later files.old files.new }

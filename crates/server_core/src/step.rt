@@ -10,14 +10,15 @@ ghost use Rattle.server_model.specs.Steps.{room_of, wants_read, wrote};
 ghost use Rattle.server_core.specs.Served.{served};
 ghost use Rattle.server_core.specs.Steps.{IsResting, WaitsOn, FailsFor, done_file, seen_as};
 
-use crate::settle::{SETTLE_FILL, settle};
+use crate::settle::settle;
 use crate::site::Site;
 use chunkqueue::{BUFFER_SIZE, Store};
 use connection::Conn;
 use lt_world::{Ending, Files, Got, Net, Took};
 
-/// Bytes that are copied into buffers in one turn, at most: those of one read or of one range, and those of what follows.
-pub(crate) const TURN_FILL: usize = BUFFER_SIZE + SETTLE_FILL;
+/// Bytes that are copied into buffers in one turn, at most: 4,096 of one read or of one range, and those of what follows:
+/// 65,536 that are held of the input, 25 of 100 (Continue), 65,536 of a reply's head and 8,192 before its body.
+pub(crate) const TURN_FILL: usize = 143_385;
 
 /// Ends a connection, and gives the file back that it keeps.
 pub(crate) fn release<F: Files>(conn: Conn, store: &mut Store, files: &mut F)

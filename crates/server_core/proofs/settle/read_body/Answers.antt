@@ -1,9 +1,9 @@
-use Rattle.std.proofs.Common.{Some, sym, ap, ◌∙◌}
+use Rattle.std.proofs.Common.{length, Some, sym, ap, ◌∙◌, arith}
 use Rattle.lt_world.specs.declared.net.Ending.TheVariants as ending
 use Rattle.server_core.specs.Served.{served}
 use Rattle.server_model.specs.Held.{Held}
 use Rattle.connection.specs.Stages.{stage_of}
-use Rattle.server_core.proofs.Advancing.{headed_heading}
+use Rattle.server_core.proofs.Advancing.{headed_heading, accepted_input}
 use Rattle.server_core.proofs.Settling.{body_limit, settles_unread, body_idle, body_free, body_fits, body_read, body_then, body_goes, body_link, step_fits, step_link}
 use Rattle.server_core.proofs.settle.read_body.Goals as goal
 
@@ -23,6 +23,10 @@ returns-in_default-advance-clause-settles g c =
     c.advance.new.self.held (g.F.Files.disk c.args.files.now) (Some ending.NoMemory)
     (settles_unread (served c.args.site.now) c.accept_body.new.self.held c.advance.new.self.held g.F.Files.tells (g.F.Files.disk c.args.files.now)
     (ap (λ (h : Held). h.link) c.in_default-advance.ensures.err.0) (ap (λ (h : Held). h.file) c.in_default-advance.ensures.err.0))
+
+pub returns-in_default-advance-clause-filled : goal.returns-in_default-advance-clause-filled
+returns-in_default-advance-clause-filled g c =
+    omega (arith, c.accept_body.ensures.filled, c.in_default-advance.ensures.filled, ap (λ (h : Held). length h.input) c.in-Ok.ensures.ok, ap length (accepted_input c.args.conn.now.held c.settings_for-settings.result.body_limit))
 
 pub returns-in_default-advance-clause-link : goal.returns-in_default-advance-clause-link
 returns-in_default-advance-clause-link g c = ap (λ (h : Held). h.link) c.in_default-advance.ensures.err.0
@@ -59,3 +63,7 @@ returns-clause-link g c = c.go_on.ensures.link
     (body_free (served c.args.site.now) c.args.conn.now.held c.accept_body.new.self.held g.F.Files.tells (g.F.Files.disk c.args.files.now) c.settings_for-settings.result.body_limit (body_limit (served c.args.site.now) c.args.conn.now.held c.settings_for-settings.result.body_limit c.settings_for-settings.ensures.body) c.requires.heading c.requires.free c.in-Ok.ensures.ok)
     c.in-Ok-advance.ensures.ok
     ∙ body_link (served c.args.site.now) c.args.conn.now.held c.accept_body.new.self.held g.F.Files.tells (g.F.Files.disk c.args.files.now) c.settings_for-settings.result.body_limit (body_limit (served c.args.site.now) c.args.conn.now.held c.settings_for-settings.result.body_limit c.settings_for-settings.ensures.body) c.requires.heading c.requires.free c.in-Ok.ensures.ok
+
+pub returns-clause-filled : goal.returns-clause-filled
+returns-clause-filled g c =
+    omega (arith, c.accept_body.ensures.filled, c.advance.ensures.filled, c.go_on.ensures.filled, ap (λ (h : Held). length h.input) c.in-Ok.ensures.ok, ap length (accepted_input c.args.conn.now.held c.settings_for-settings.result.body_limit))

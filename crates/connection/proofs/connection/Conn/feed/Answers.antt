@@ -6,6 +6,7 @@ use Rattle.connection.specs.Progress.{progress_after, has_memory}
 use Rattle.connection.specs.declared.progress.Progress.{Progress}
 use Rattle.connection.specs.declared.progress.Progress.TheVariants as progress
 use Rattle.connection.proofs.Buffers.{fed_kept}
+use Rattle.connection.proofs.Memory.{fills_less}
 use Rattle.connection.proofs.Feeding.{all_in, if_ok, fed_held, fed_rests, fed_empty, fed_queues}
 use Rattle.connection.proofs.connection.Conn.feed.Goals as goal
 
@@ -47,6 +48,14 @@ returns-clause-ok c =
     ∙ fed_held (connected_of c.self.inside).held c.args.self.now.held c.self.inside.number head c.in-Taking.body s c.self.inside.input c.self.inside.body c.feed-answer.new.input c.feed-answer.new.body c.feed-answer.result
     (ap (λ (x : Connected). x.held) c.self.view_is) (ap (λ (p : Progress). stage_by c.self.inside.number p (memory_front (items_of c.self.inside.body))) is) refl c.self.invariant.memory c.self.invariant.content
     c.feed-answer.ensures.answer c.feed-answer.ensures.stands c.feed-answer.ensures.data c.feed-answer.ensures.rest had)
+
+pub returns-clause-filled : goal.returns-clause-filled
+returns-clause-filled c =
+    let few : count_of c.self.inside.body < 2 ^ 62 - 65536 = omega (arith, c.if-len-ge-CONTENT_LIMIT.false, c.len.ensures.count) in
+    let q = fed_queues c.in-Taking.body c.feed-answer.new.self c.self.inside.input c.self.inside.body c.feed-answer.new.input c.feed-answer.new.body c.feed-answer.ensures.takes c.self.invariant.memory c.self.invariant.within c.self.invariant.content
+        (omega (arith, few)) in
+    fills_less c.args.store.now.filled c.feed-answer.new.store.filled c.args.self.now.held.input c.self.inside.input c.feed-answer.new.input (ap (λ (x : Connected). x.held.input) c.self.view_is) c.self.invariant.memory q.memory
+    c.feed-answer.ensures.filled
 
 pub returns-clause-kept : goal.returns-clause-kept
 returns-clause-kept c =

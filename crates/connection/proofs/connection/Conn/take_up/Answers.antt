@@ -1,11 +1,13 @@
-use Rattle.std.proofs.Common.{ℕ, List, drop, refl, ap, sym, subst, ◌∙◌, arith}
-use Rattle.chunkqueue.specs.Items.{items_of, memory_front}
+use Rattle.std.proofs.Common.{ℕ, List, length, drop, refl, ap, sym, subst, ◌∙◌, arith}
+use Rattle.std.proofs.lemmas.List.{length-drop}
+use Rattle.chunkqueue.specs.Items.{Item, items_of, memory_front}
 use Rattle.connection.specs.Connection.{Connected}
 use Rattle.connection.specs.Stages.{next_number}
 use Rattle.connection.specs.Inside.{connected_of, stage_by, IsAt, IsContentAt}
 use Rattle.connection.specs.declared.progress.Progress.{Progress}
 use Rattle.server_model.specs.Held.{Stage}
 use Rattle.connection.proofs.Buffers.{first_kept}
+use Rattle.connection.proofs.Memory.{fills_less}
 use Rattle.connection.proofs.Rests.{next_rests, next_empty, found_rests, found_empty, taken_fits, skipped_memory, skipped_within, taken_up}
 use Rattle.connection.proofs.connection.Conn.take_up.Goals as goal
 
@@ -34,6 +36,12 @@ returns-clause-ok c =
     ap (λ (s : Stage). record (connected_of c.self.inside).held { stage = s; input = memory_front (items_of c.skip.new.input) }) (ap (λ (p : Progress). stage_by c.args.number p content) c.progress.ensures)
     ∙ taken_up (connected_of c.self.inside).held c.args.self.now.held c.args.number c.in_ok-found.found content c.self.inside.input c.skip.new.input (ap (λ (x : Connected). x.held) c.self.view_is) refl c.self.invariant.memory
     c.in_ok-found.ensures.looked (c.skip.ensures.items ∙ ap (λ (n : ℕ). drop n (items_of c.self.inside.input)) c.taken.ensures)
+
+pub returns-clause-filled : goal.returns-clause-filled
+returns-clause-filled c =
+    fills_less c.args.store.now.filled c.skip.new.store.filled c.args.self.now.held.input c.self.inside.input c.skip.new.input (ap (λ (x : Connected). x.held.input) c.self.view_is) c.self.invariant.memory
+    (skipped_memory c.self.inside.input c.skip.new.input c.taken.result c.skip.ensures.items c.self.invariant.memory)
+    (omega (arith, c.skip.ensures.filled, ap (λ (l : List Item). length l) c.skip.ensures.items, length-drop c.taken.result (items_of c.self.inside.input)))
 
 pub returns-clause-kept : goal.returns-clause-kept
 returns-clause-kept c =
