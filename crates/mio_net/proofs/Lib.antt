@@ -1,0 +1,2 @@
+mod Chances
+mod Waiting

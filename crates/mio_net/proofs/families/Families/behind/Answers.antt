@@ -1,0 +1,6 @@
+use Rattle.std.proofs.Common.{arith}
+use Rattle.mio_net.proofs.Chances.{read_some}
+use Rattle.mio_net.proofs.families.Families.behind.Goals as goal
+
+pub returns-in-Some-clause-within : goal.returns-in-Some-clause-within
+returns-in-Some-clause-within c = c.self.invariant.behind_within c.args.place c.in-Some.other (read_some c.self.inside.behind.items c.args.place c.in-Some.other c.index.result.now (omega (arith, c.self.inside.behind.ok.0, c.self.invariant.behind_all, c.requires)) c.index.ensures c.in-Some.is)

@@ -1,0 +1,40 @@
+-- What contracts see of the net, and what it may become.
+use Rattle.std.specs.Prelude.{◌≡◌, ℕ, ◌≤◌, ◌⊎◌}
+use Rattle.std.proofs.Common.{arith}
+use Rattle.lt_world.specs.declared.net.NextKind.{NextKind}
+use Rattle.lt_world.specs.declared.net.NextKind.TheVariants as kind
+use Rattle.lt_world.specs.declared.net.Event.{Event}
+use Rattle.lt_world.specs.Answers.{kind_of}
+
+pub record Counts : Type 0 where
+  pub faults : ℕ
+  pub wait_faults : ℕ
+  -- the kind of the last answer of `next`
+  pub last : NextKind
+  -- every link so far has a number below it
+  pub links : ℕ
+
+abbrev pub no_counts : Counts
+no_counts = record { faults = 0; wait_faults = 0; last = kind.NoneYet; links = 0 }
+
+-- counts and numbers never fall, and the net answers neither NoMemory nor Over
+pub record Becomes (before after : Counts) : Type 0 where
+  pub faults : before.faults ≤ after.faults
+  pub wait_faults : before.wait_faults ≤ after.wait_faults
+  pub links : before.links ≤ after.links
+  pub memory : after.last ≡ kind.NoMemory → before.last ≡ kind.NoMemory
+  pub over : after.last ≡ kind.Over → before.last ≡ kind.Over
+
+-- an event of a link
+abbrev pub IsLinkEvent : Event → Type 0
+IsLinkEvent answer = kind_of answer ≡ kind.Event
+
+-- an event of a link, or Idle
+abbrev pub IsAnswer : Event → Type 0
+IsAnswer answer = (kind_of answer ≡ kind.Event) ⊎ (kind_of answer ≡ kind.Idle)
+
+pub Becomes-same : (net : Counts) → Becomes net net
+Becomes-same net = record { faults = omega arith; wait_faults = omega arith; links = omega arith; memory = λ is. is; over = λ is. is }
+
+pub Becomes-more : (a b c : Counts) → Becomes a b → Becomes b c → Becomes a c
+Becomes-more a b c ab bc = record { faults = omega (arith, ab.faults, bc.faults); wait_faults = omega (arith, ab.wait_faults, bc.wait_faults); links = omega (arith, ab.links, bc.links); memory = λ is. ab.memory (bc.memory is); over = λ is. ab.over (bc.over is) }
