@@ -1,0 +1,5 @@
+pub mod Encoded
+pub mod Feeding
+pub mod Reading
+pub mod Sound
+pub mod States

@@ -1,0 +1,1 @@
+//! What the definitions come to, each law as the contract of a function.

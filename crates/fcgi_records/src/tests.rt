@@ -1,0 +1,1 @@
+//! Answers of an application, cut at every place.
