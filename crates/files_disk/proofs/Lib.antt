@@ -1,0 +1,3 @@
+mod Known
+mod Filling
+mod Slashes
