@@ -7,11 +7,11 @@ use Rattle.lt_world.specs.declared.net.Ending.TheVariants as ending
 use Rattle.lt_world.specs.Disk.{Tree}
 use Rattle.lt_world.specs.Trace.{Act, Entry, Accepted, Readable, Writable, Read, ReadEnd, NotYet, Failed, Wrote, Connect, Close}
 use Rattle.lt_script.specs.declared.script.Step.{Step}
-use Rattle.lt_script.specs.Calls.{Game}
-use Rattle.lt_script.specs.Plays.{played}
-use Rattle.lt_script.specs.Playing.{Playing, unplayed, IsLater}
-use Rattle.lt_script.specs.Failing.{IsCalm, is_failure, NoneFailed}
-use Rattle.lt_script.proofs.Calm.{calm_never_fails}
+use Rattle.script_net.specs.Calls.{Game}
+use Rattle.script_net.specs.Plays.{played}
+use Rattle.script_net.specs.Playing.{Playing, unplayed, IsLater}
+use Rattle.script_net.specs.Failing.{IsCalm, is_failure, NoneFailed}
+use Rattle.script_net.proofs.Calm.{calm_never_fails}
 use Rattle.server_model.specs.Site.{Site}
 use Rattle.server_model.specs.Deeds.{Deed, Ours, is_deed, own, ours}
 use Rattle.server_model.specs.Client.{has_failed}

@@ -9,11 +9,11 @@ use Rattle.lighttpd.specs.Reading.{HasScript, IsOnly}
 use Rattle.lighttpd.specs.Offline.{PlaySays, ReplaySays, HasSomeRoot, IsComplete}
 use Rattle.lt_script.specs.declared.script.Script.{Script}
 use Rattle.lt_script.specs.declared.script.Step.{Step}
-use Rattle.lt_script.specs.Steps.{events_left}
-use Rattle.lt_script.specs.Playing.{Playing, unplayed, IsLater}
-use Rattle.lt_script.specs.Plays.{Plays, played}
-use Rattle.lt_script.specs.Calls.{Game}
-use Rattle.lt_script.proofs.Runs.{none_left}
+use Rattle.script_net.specs.Steps.{events_left}
+use Rattle.script_net.specs.Playing.{Playing, unplayed, IsLater}
+use Rattle.script_net.specs.Plays.{Plays, played}
+use Rattle.script_net.specs.Calls.{Game}
+use Rattle.script_net.proofs.Runs.{none_left}
 
 -- what a net came to that began with these steps, and where no event is left, is a play of all of them
 pub plays_all : (steps : List Step) (a b : Playing) → a ≡ unplayed steps → IsLater a b → events_left b.game.left ≡ 0 → Plays steps b.game.trace []

@@ -1,7 +1,7 @@
 //! The program: `replay` serves the clients of a script, `-p` prints a configuration.
 //! Promised, by `offline`: each client takes a prefix of its own stream, and all of it where it is closed clean; what
 //! is due for an event follows in the same turn; each status comes for its cause, and the first refusal is answered.
-//! Stands on `server_core` for the turns, `lt_script` for the script's net and report, `conf_parse` for the printed
+//! Stands on `server_core` for the turns, `script_net` for the script's net and report, `conf_parse` for the printed
 //! form. Real texts and standard output are read and written in `texts_disk` and `out_sink` alone.
 #![tactic(auto)]
 
@@ -19,7 +19,7 @@ use crate::offline::offline;
 use crate::out_sink::OutSink;
 use crate::status::Status;
 use crate::texts_disk::DiskTexts;
-use lt_script::ScriptNet;
+use script_net::ScriptNet;
 use lt_world::MemFiles;
 use std::io::ErrorKind;
 use std::process::ExitCode;

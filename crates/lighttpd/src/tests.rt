@@ -2,7 +2,7 @@
 use crate::offline::offline;
 use crate::status::{ConfFault, ConfKind, Status};
 use lt_bytes::Text;
-use lt_script::ScriptNet;
+use script_net::ScriptNet;
 use lt_world::{MemFiles, MemSink, MemTexts};
 use std::alloc::Global;
 use std::process::Abort;

@@ -8,11 +8,3 @@ pub mod WholeTexts
 pub mod Feeds
 pub mod Requoted
 pub mod Printed
-pub mod Noting
-pub mod Telling
-pub mod Becoming
-pub mod Turning
-pub mod Loading
-pub mod Pieces
-pub mod Runs
-pub mod Calm

@@ -3,7 +3,8 @@ ghost use Rattle.server_model.specs.Files.{IsTable, Backs};
 
 use crate::failing::Failing;
 use lt_bytes::{NoMemory, Text};
-use lt_script::{ScriptError, ScriptNet, parse_script, report};
+use lt_script::{ScriptError, parse_script};
+use script_net::{ScriptNet, report};
 use lt_world::{Ending, FileCall, Files, MemFiles, MemSink, Net};
 use server_core::{Server, Turn};
 use std::alloc::Global;

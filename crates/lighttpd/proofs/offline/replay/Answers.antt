@@ -1,9 +1,9 @@
 use Rattle.std.proofs.Common.{rules, ◌≡◌, ℕ, List, ap, sym, ◌∙◌}
 use Rattle.std.specs.Prelude.{Option}
 use Rattle.lt_script.specs.declared.script.Script.{Script}
-use Rattle.lt_script.specs.Playing.{unplayed, Playing}
+use Rattle.script_net.specs.Playing.{unplayed, Playing}
 use Rattle.lt_world.specs.Memory.{Stored, tree_of, no_files}
-use Rattle.lt_script.specs.Loads.{planted}
+use Rattle.script_net.specs.Loads.{planted}
 use Rattle.lighttpd.proofs.OfflineLemmas.{play_says, is_complete}
 use Rattle.lighttpd.proofs.RunLemmas.{unserved, served_as}
 use Rattle.lighttpd.proofs.offline.replay.Goals as goal

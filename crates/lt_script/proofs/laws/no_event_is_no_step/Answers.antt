@@ -1,5 +1,0 @@
-use Rattle.lt_script.proofs.Runs.{none_left}
-use Rattle.lt_script.proofs.laws.no_event_is_no_step.Goals as goal
-
-pub returns : goal.returns
-returns c = none_left

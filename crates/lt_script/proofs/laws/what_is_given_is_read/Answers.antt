@@ -1,5 +1,0 @@
-use Rattle.lt_script.proofs.Runs.{given_is_read}
-use Rattle.lt_script.proofs.laws.what_is_given_is_read.Goals as goal
-
-pub returns : goal.returns
-returns c = given_is_read

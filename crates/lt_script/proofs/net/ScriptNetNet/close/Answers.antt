@@ -1,7 +1,0 @@
-use Rattle.std.proofs.Common.{refl}
-use Rattle.lt_script.specs.Calls.{Closes}
-use Rattle.lt_script.proofs.Turning.{by_call}
-use Rattle.lt_script.proofs.net.ScriptNetNet.close.Goals as goal
-
-pub returns-clause-later : goal.returns-clause-later
-returns-clause-later c = rw (← c.self.view_is) (by_call (Closes c.args.link.0 c.args.ending) _ _ refl (rw (c.close.ensures.sides, c.close.ensures.trace) refl))

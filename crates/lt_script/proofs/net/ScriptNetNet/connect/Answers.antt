@@ -1,7 +1,0 @@
-use Rattle.std.proofs.Common.{refl}
-use Rattle.lt_script.specs.Calls.{Connects}
-use Rattle.lt_script.proofs.Turning.{by_call}
-use Rattle.lt_script.proofs.net.ScriptNetNet.connect.Goals as goal
-
-pub returns-clause-later : goal.returns-clause-later
-returns-clause-later c = rw (← c.self.view_is) (by_call (Connects c.args.owner c.args.to) _ _ refl (rw (c.fail_connect.ensures.sides, c.fail_connect.ensures.trace) refl))

@@ -1,0 +1,20 @@
+-- A net that plays a script is later than itself, and later than what its past was later than.
+use Rattle.std.specs.Prelude.{◌≡◌, List, [], ◌∷◌, ◌++◌}
+use Rattle.std.proofs.Common.{refl, ◌∙◌, ap, sym}
+use Rattle.script_net.specs.Calls.{Game, Call, after}
+use Rattle.script_net.specs.Plays.{played}
+use Rattle.script_net.specs.Playing.{Playing, IsLater}
+
+pub played-append : (more calls : List Call) (game : Game) → played (more ++ calls) game ≡ played more (played calls game)
+played-append [] calls game = refl
+played-append (call ∷ more) calls game = ap (after call) (played-append more calls game)
+
+pub IsLater-same : (a : Playing) → IsLater a a
+IsLater-same a = record { same = refl; calls = []; plays = refl }
+
+pub IsLater-more : (a b c : Playing) → IsLater a b → IsLater b c → IsLater a c
+IsLater-more a b c ab bc = record {
+  same = bc.same ∙ ab.same;
+  calls = bc.calls ++ ab.calls;
+  plays = bc.plays ∙ ap (λ (g : Game). played bc.calls g) ab.plays ∙ sym (played-append bc.calls ab.calls a.game);
+}

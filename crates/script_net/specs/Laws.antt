@@ -1,0 +1,32 @@
+-- What holds of scripts and of the nets that play them, by the definitions alone.
+use Rattle.std.specs.Prelude.{◌≡◌, ℕ, ◌≤◌, List, [], ◌++◌}
+use Rattle.lt_world.specs.Trace.{own, Extends}
+use Rattle.lt_script.specs.declared.script.Step.{Step}
+use Rattle.script_net.specs.Sides.{side_at, unread}
+use Rattle.script_net.specs.Steps.{events_left}
+use Rattle.script_net.specs.Views.{input_of}
+use Rattle.script_net.specs.Calls.{Call, start}
+use Rattle.script_net.specs.Plays.{played, Plays}
+use Rattle.script_net.specs.Playing.{Playing, IsLater}
+use Rattle.script_net.specs.Failing.{IsCalm, NoneFailed}
+
+-- what comes later than a net that was just loaded is a trace that its script plays
+abbrev pub LaterPlays : Type 0
+LaterPlays = (a b : Playing) → a.game ≡ start a.script → IsLater a b → Plays b.script b.game.trace b.game.left
+
+-- a later net takes back nothing, and has no more events left
+abbrev pub LaterGrows : Type 0
+LaterGrows = (a b : Playing) → IsLater a b → Extends a.game.trace b.game.trace × (events_left b.game.left ≤ events_left a.game.left)
+
+-- the bytes that were read on a link and those that can still be read are the bytes that the script gave to it
+abbrev pub GivenIsRead : Type 0
+GivenIsRead = (steps : List Step) (calls : List Call) (link : ℕ)
+    → let game = played calls (start steps) in input_of (own link game.trace) ++ unread (side_at link game.sides) ≡ (side_at link game.sides).given
+
+-- where no step makes a read or a write fail, none fails, whatever the calls
+abbrev pub CalmNeverFails : Type 0
+CalmNeverFails = (steps : List Step) (calls : List Call) → IsCalm steps → NoneFailed (played calls (start steps)).trace
+
+-- where no event is left, no step is
+abbrev pub NoneLeft : Type 0
+NoneLeft = (steps : List Step) → events_left steps ≡ 0 → steps ≡ []

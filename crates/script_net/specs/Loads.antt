@@ -1,0 +1,26 @@
+-- What the files of a script make of a tree.
+use Rattle.std.specs.Prelude.{◌≡◌, ℕ, true, ◌<◌, List, [], ◌∷◌, length, get_or}
+use Rattle.lt_world.specs.Disk.{Tree}
+use Rattle.lt_world.specs.Memory.{with_file_at, with_directory_at, is_path}
+use Rattle.lt_script.specs.declared.script.ScriptFile.{ScriptFile}
+use Rattle.lt_script.specs.declared.script.ScriptFile.TheVariants as file
+use Rattle.script_net.specs.Letters.{letters}
+
+abbrev pub path_of : ScriptFile → List ℕ
+path_of (file.Bytes path time bytes) = path
+path_of (file.Fill path time size) = path
+path_of (file.Dir path) = path
+
+abbrev pub with_file : ScriptFile → Tree → Tree
+with_file (file.Bytes path time bytes) tree = with_file_at path time bytes tree
+with_file (file.Fill path time size) tree = with_file_at path time (letters size) tree
+with_file (file.Dir path) tree = with_directory_at path tree
+
+-- the tree with these files, one after another
+abbrev pub planted : List ScriptFile → Tree → Tree
+planted [] tree = tree
+planted (file ∷ files) tree = planted files (with_file file tree)
+
+-- each file has a path that begins with a slash and doesn't end with one
+abbrev pub AreRooted : List ScriptFile → Type 0
+AreRooted files = (k : ℕ) (other : ScriptFile) → k < length files → is_path (path_of (get_or files k other)) ≡ true

@@ -1,0 +1,82 @@
+//! A script is put where it plays: its files and directories into memory, its steps into a net.
+ghost use Rattle.std.specs.Prelude.{◌≡◌, true, OnOk, IfOk};
+ghost use Rattle.lt_world.specs.Memory.{tree_of, is_path};
+ghost use Rattle.script_net.specs.Loads.{path_of, with_file, planted, AreRooted};
+
+use crate::letters::letters;
+use lt_bytes::{List, NoMemory, Text};
+use lt_script::{ScriptFile, Step};
+use lt_world::MemFiles;
+use std::alloc::Global;
+
+/// Adds the files of a script.
+pub fn plant(alloc: Global, script: &[ScriptFile], files: &mut MemFiles) -> Result<(), NoMemory>
+    requires { AreRooted script.now }
+    ensures tree { OnOk result (tree_of files.new ≡ planted script.now (tree_of files.old)) }
+    ensures rest { files.new ≡ record files.old { places = files.new.places } }
+{
+    for file in script {
+        plant_one(alloc, file, files)?;
+    }
+    Ok(())
+}
+
+fn plant_one(alloc: Global, file: &ScriptFile, files: &mut MemFiles) -> Result<(), NoMemory>
+    requires { is_path (path_of file.now) ≡ true }
+    ensures tree { OnOk result (tree_of files.new ≡ with_file file.now (tree_of files.old)) }
+    ensures rest { files.new ≡ record files.old { places = files.new.places } }
+{
+    match file {
+        ScriptFile::Bytes { path, time, bytes } => {
+            files.add_file(path.bytes(), *time, bytes.bytes())
+        }
+        ScriptFile::Fill { path, time, size } => {
+            let bytes = letters(alloc, *size as usize)?;
+            files.add_file(path.bytes(), *time, &bytes)
+        }
+        ScriptFile::Dir { path } => files.add_dir(path.bytes()),
+    }
+}
+
+/// A copy of steps.
+pub fn copy_steps(alloc: Global, steps: &[Step]) -> Result<List<Step>, NoMemory>
+    ensures { IfOk result (λ copy. copy ≡ steps.now) }
+{
+    let mut copy = List::new(alloc);
+    for step in steps {
+        copy.push(copy_step(alloc, step)?)?;
+    }
+    Ok(copy)
+}
+
+fn copy_step(alloc: Global, step: &Step) -> Result<Step, NoMemory>
+    ensures { IfOk result (λ copy. copy ≡ step.now) }
+{
+    match step {
+        Step::Accept { peer, local } => Ok(Step::Accept {
+            peer: *peer,
+            local: *local,
+        }),
+        Step::Bytes { link, bytes } => {
+            let bytes = Text::from_bytes(alloc, bytes.bytes())?;
+            Ok(Step::Bytes { link: *link, bytes })
+        }
+        Step::Pour { link, size } => Ok(Step::Pour {
+            link: *link,
+            size: *size,
+        }),
+        Step::End { link } => Ok(Step::End { link: *link }),
+        Step::Ready { link, count } => Ok(Step::Ready {
+            link: *link,
+            count: *count,
+        }),
+        Step::ReadFail { link } => Ok(Step::ReadFail { link: *link }),
+        Step::Take { link, size, count } => Ok(Step::Take {
+            link: *link,
+            size: *size,
+            count: *count,
+        }),
+        Step::WriteFail { link } => Ok(Step::WriteFail { link: *link }),
+        Step::Idle => Ok(Step::Idle),
+    }
+}
