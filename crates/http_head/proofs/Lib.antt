@@ -12,3 +12,4 @@ pub mod FramingLemmas
 pub mod OptionLemmas
 mod SharedLemmas
 mod VersionLemmas
+pub mod ScanLemmas

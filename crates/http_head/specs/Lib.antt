@@ -1,5 +1,6 @@
 pub mod Lines
 pub mod Ends
+pub mod Scan
 pub mod Read
 pub mod Fields
 pub mod Framing

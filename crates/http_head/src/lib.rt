@@ -15,6 +15,7 @@ mod limits;
 mod lines;
 mod options;
 mod refusal;
+mod scan;
 #[cfg(test)]
 mod tests;
 
@@ -23,3 +24,4 @@ pub use framing::Framing;
 pub use head::{Request, read_head};
 pub use limits::{FIELD_LINE_LIMIT, HEAD_LIMIT};
 pub use refusal::HeadRefusal;
+pub use scan::HeadScan;

@@ -1,10 +1,8 @@
 //! The lines of a head, before it is parsed.
-ghost use Rattle.std.specs.Prelude.{◌≡◌, ◌<◌, ◌≤◌, ◌==◌, length, IfSome};
+ghost use Rattle.std.specs.Prelude.{◌≡◌, ◌≤◌, ◌==◌, length};
 ghost use Rattle.std.specs.List.{before_first};
 ghost use Rattle.std.specs.Str.Lines.{strip_carriage_return};
-ghost use Rattle.http_head.specs.Lines.{empty_line, after_blank, length_to_end, lines_to_end, field_lines, start_line, is_other_version, ends_in_other_version};
-
-use memchr::memchr;
+ghost use Rattle.http_head.specs.Lines.{empty_line, after_blank, lines_to_end, field_lines, start_line, is_other_version, ends_in_other_version};
 
 /// The length of the empty line at the front, LF or CR LF; 0 where none is there.
 fn empty_line(bytes: &[u8]) -> usize
@@ -30,22 +28,6 @@ pub(crate) fn after_blank(bytes: &[u8]) -> &[u8]
         }
         rest = &rest[n..];
     }
-}
-
-/// From a byte of the start line on, the length up to the end of the first empty line.
-pub(crate) fn length_to_end(bytes: &[u8]) -> Option<usize>
-    ensures value { result ≡ length_to_end bytes.now }
-    ensures within { IfSome result (λ n. (0 < n) × (n ≤ length bytes.now)) }
-{
-    let mut at = 0;
-    while let Some(n) = memchr(b'\n', &bytes[at..]) {
-        at += n + 1;
-        let empty = empty_line(&bytes[at..]);
-        if empty > 0 {
-            return Some(at + empty);
-        }
-    }
-    None
 }
 
 /// From a byte of the start line on, how many lines come between it and the first empty line.
