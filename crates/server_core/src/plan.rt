@@ -1,12 +1,13 @@
 //! What a request gets: a find at its path, and an open where a file stands there.
-ghost use Rattle.std.specs.Prelude.{◌≡◌, ◌++◌, ◌≤◌, Option, IfOk};
+ghost use Rattle.std.specs.Prelude.{◌≡◌, ◌++◌, ◌≤◌, Some, IfOk};
 ghost use Rattle.server_core.specs.Served.{served};
 ghost use Rattle.server_core.specs.Planned.{Plans, PlansWithin, OpensAs};
 ghost use Rattle.lt_world.specs.Disk.{IsFileAt};
-ghost use Rattle.server_model.specs.World.{Arrival};
+ghost use Rattle.server_model.specs.Held.{arrival_of};
 
 use crate::form::is_served;
 use crate::site::Site;
+use connection::Conn;
 use http_head::Request;
 use lt_bytes::{NoMemory, Text};
 use lt_world::{FileId, Files, Found, Opened, Owner};
@@ -21,13 +22,20 @@ pub(crate) enum Planned {
     NoMemory,
 }
 
-/// Asks the files what stands at the request's path below the document root.
-pub(crate) fn plan<F: Files>(site: &Site, request: &Request, files: &mut F, owner: Owner) -> Planned
-    ensures plans { (arrival : Option Arrival) → F.tells → Plans result (served site.now) arrival owner.conn owner.request request.now (F.disk files.old) (F.disk files.new) }
+/// Asks the files what stands at the path of the client's request below the document root.
+pub(crate) fn plan<F: Files>(
+    site: &Site,
+    conn: &Conn,
+    request: &Request,
+    files: &mut F,
+    owner: Owner,
+) -> Planned
+    ensures plans { F.tells → Plans result (served site.now) (Some (arrival_of conn.now.held)) owner.conn owner.request request.now (F.disk files.old) (F.disk files.new) }
     ensures within { PlansWithin result }
     ensures faults { F.faults files.old ≤ F.faults files.new }
     ensures later { F.later files.old files.new }
 {
+    let _ = conn;
     let Ok(place) = place_of(site.alloc, site.root.bytes(), request.target.path.bytes()) else {
         return Planned::NoMemory;
     };

@@ -27,6 +27,7 @@ pub(crate) struct Settings<'s> {
 }
 
 /// Those for the client's current request, of which the head was read or not.
+#[tactic(auto, unfolding(server_model::specs::Settings::settings_at))]
 pub(crate) fn settings_for<'s>(site: &'s Site, conn: &Conn) -> Settings<'s>
     ensures tag { result.tag.now ≡ (settings_at (served site.now) (Some (arrival_of conn.now.held)) (head_at conn.now.held.stage)).tag }
     ensures requests { result.request_limit ≡ (settings_at (served site.now) (Some (arrival_of conn.now.held)) (head_at conn.now.held.stage)).request_limit }

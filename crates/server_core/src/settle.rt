@@ -156,7 +156,7 @@ fn respond<F: Files>(
     };
     let settings = settings_for(site, conn);
     let form = Form::of(request, owner.request, settings.request_limit);
-    let planned = plan(site, request, files, owner);
+    let planned = plan(site, conn, request, files, owner);
     serve(conn, site, store, files, settings.tag, form, planned)
 }
 

@@ -1,12 +1,12 @@
 -- What a further call on files changes of what the calls say: nothing but for its own request.
-use Rattle.std.proofs.Common.{◌≡◌, ◌≢◌, ℕ, ◌+◌, List, ◌∷◌, Bool, true, false, ◌&&◌, ◌==◌, if◌then◌else◌, refl, ◌∙◌, ap, arith}
+use Rattle.std.proofs.Common.{◌≡◌, ◌≢◌, ℕ, ◌+◌, ◌<◌, ◌≤◌, List, ◌∷◌, Bool, true, false, ◌&&◌, ◌==◌, if◌then◌else◌, refl, ◌∙◌, ap, arith}
 use Rattle.std.proofs.lemmas.Bool.Decides.{nat_tests}
 use Rattle.lt_world.specs.declared.files.Call.{Call}
 use Rattle.lt_world.specs.declared.files.FileCall.{FileCall}
 use Rattle.lt_world.specs.declared.files.FileCall.TheVariants as call
 use Rattle.lt_world.specs.declared.net.Owner.{Owner}
 use Rattle.lt_world.specs.Disk.{Disk, asked, is_kind, is_owner, count, own_calls, Logged, log_of, is_logged}
-use Rattle.lt_world.proofs.Disks.{quiet}
+use Rattle.lt_world.proofs.Disks.{logged_below}
 use Rattle.server_model.specs.Site.{Site}
 use Rattle.server_model.specs.World.{Side, World, world_at, owner_at, call_count, has_failed_call, with_call}
 
@@ -38,11 +38,23 @@ module _ (what : FileCall) (owner : Owner) (nth : ℕ) where
       by true = ap (λ t. if t && count c.kind c.owner calls == nth then true else is_logged what owner nth (log_of calls)) isnt
       by false = refl
 
--- the first call of its kind for its owner
-pub newest : (what : FileCall) (owner : Owner) (failed : Bool) (calls : List Call) → is_kind what what ≡ true → count what owner calls ≡ 0 → is_logged what owner 0 (log_of (record { kind = what; owner = owner; failed = failed } ∷ calls)) ≡ failed
-newest what owner true calls kind none =
-    (λ i. if kind i && same_owner owner i && none i == 0 then true else is_logged what owner 0 (log_of calls))
-newest what owner false calls kind none = quiet what owner 0 calls none
+same_number : (n : ℕ) → (n == n) ≡ true
+same_number n = grind (arith, nat_tests)
+
+-- no call with this number was made yet
+pub unlogged_yet : (what : FileCall) (owner : Owner) (nth : ℕ) (calls : List Call) → count what owner calls ≤ nth → is_logged what owner nth (log_of calls) ≡ false
+unlogged_yet what owner nth calls few = off (is_logged what owner nth (log_of calls)) (logged_below what owner nth calls)
+  where
+    off : (b : Bool) → (b ≡ true → nth < count what owner calls) → b ≡ false
+    off false h = refl
+    off true h = absurd (omega (arith, h refl, few))
+
+-- the newest call, where so many of its kind came before it for its owner
+pub newest : (what : FileCall) (owner : Owner) (failed : Bool) (n : ℕ) (calls : List Call) → is_kind what what ≡ true → count what owner calls ≡ n → is_logged what owner n (log_of (record { kind = what; owner = owner; failed = failed } ∷ calls)) ≡ failed
+newest what owner true n calls kind is =
+    (λ i. if kind i && same_owner owner i && is i == n then true else is_logged what owner n (log_of calls))
+    ∙ ap (λ t. if t then true else is_logged what owner n (log_of calls)) (same_number n)
+newest what owner false n calls kind is = unlogged_yet what owner n calls (omega (arith, is))
 
 -- a call that the files tell is one of the client's world
 pub asked_is : (site : Site) (disk : Disk) (client k : ℕ) (side : Side) (what : FileCall) (owner : Owner) (failed : Bool) → owner.conn ≡ client → owner.request ≡ k
@@ -61,19 +73,21 @@ module _ (world : World) (k : ℕ) where
       ap (λ t. if is_kind made what && t then call_count world j what + 1 else call_count world j what) (other_owner (owner_at world k) world.client j apart)
       ∙ ap (λ t. if t then call_count world j what + 1 else call_count world j what) (and_false (is_kind made what))
 
-  -- after the find of a request for which nothing was asked
-  pub find_failed : (failed : Bool) → call_count world k call.Find ≡ 0 → has_failed_call (with_call call.Find k failed world) k call.Find 0 ≡ failed
-  find_failed failed none = newest call.Find (owner_at world k) failed world.calls refl none
+  -- after a find behind so many others
+  pub find_failed : (n : ℕ) (failed : Bool) → call_count world k call.Find ≡ n → has_failed_call (with_call call.Find k failed world) k call.Find n ≡ failed
+  find_failed n failed is = newest call.Find (owner_at world k) failed n world.calls refl is
 
-  pub unopened : (failed : Bool) → call_count world k call.Open ≡ 0 → has_failed_call (with_call call.Find k failed world) k call.Open 0 ≡ false
-  unopened failed none = unlogged call.Open (owner_at world k) 0 (record { kind = call.Find; owner = owner_at world k; failed = failed }) world.calls refl ∙ quiet call.Open (owner_at world k) 0 world.calls none
+  pub unopened : (n : ℕ) (failed : Bool) → call_count world k call.Open ≡ n → has_failed_call (with_call call.Find k failed world) k call.Open n ≡ false
+  unopened n failed is =
+      unlogged call.Open (owner_at world k) n (record { kind = call.Find; owner = owner_at world k; failed = failed }) world.calls refl
+      ∙ unlogged_yet call.Open (owner_at world k) n world.calls (omega (arith, is))
 
   pub still_unopened : (failed : Bool) → call_count (with_call call.Find k failed world) k call.Open ≡ call_count world k call.Open
   still_unopened failed = refl
 
-  -- and after its open
-  pub open_failed : (failed opened : Bool) → call_count world k call.Open ≡ 0 → has_failed_call (with_call call.Open k opened (with_call call.Find k failed world)) k call.Open 0 ≡ opened
-  open_failed failed opened none = newest call.Open (owner_at world k) opened (with_call call.Find k failed world).calls refl none
+  -- and after an open
+  pub open_failed : (n : ℕ) (failed opened : Bool) → call_count world k call.Open ≡ n → has_failed_call (with_call call.Open k opened (with_call call.Find k failed world)) k call.Open n ≡ opened
+  open_failed n failed opened is = newest call.Open (owner_at world k) opened n (with_call call.Find k failed world).calls refl is
 
-  pub find_stays : (failed opened : Bool) → call_count world k call.Find ≡ 0 → has_failed_call (with_call call.Open k opened (with_call call.Find k failed world)) k call.Find 0 ≡ failed
-  find_stays failed opened none = unlogged call.Find (owner_at world k) 0 (record { kind = call.Open; owner = owner_at world k; failed = opened }) (with_call call.Find k failed world).calls refl ∙ find_failed failed none
+  pub find_stays : (n : ℕ) (failed opened : Bool) → call_count world k call.Find ≡ n → has_failed_call (with_call call.Open k opened (with_call call.Find k failed world)) k call.Find n ≡ failed
+  find_stays n failed opened is = unlogged call.Find (owner_at world k) n (record { kind = call.Open; owner = owner_at world k; failed = opened }) (with_call call.Find k failed world).calls refl ∙ find_failed n failed is

@@ -8,7 +8,7 @@ use Rattle.lt_world.specs.Trace.{Act, Accepted, Readable, Writable, Read, ReadEn
 use Rattle.server_model.specs.Settings.{settings_of, limit_for}
 use Rattle.server_model.specs.Request.{Request, Unfinished, Refused, Open, Declined, Complete, Limits, request_of, rest_of, is_complete, requests_within}
 use Rattle.server_model.specs.World.{World, owner_at, has_failed_call, with_call}
-use Rattle.server_model.specs.Plan.{outcome, is_served}
+use Rattle.server_model.specs.Plan.{sought_by, sought, places_of, outcome, is_served}
 use Rattle.server_model.specs.Reply.{continue_of, planned_reply, reply, replies}
 use Rattle.server_model.specs.Stream.{IsPrefix, is_followed, joined, Passed, replies_to, stream_of}
 use Rattle.server_model.specs.Client.{input_of, stream}
@@ -135,9 +135,13 @@ stream_act world (Connect owner to link) acts = same_prefix (stream world acts)
 stream_act world (Close e) acts = same_prefix (stream world acts)
 
 module _ (world : World) (made : FileCall) (k j : ℕ) (failed : Bool) (apart : k ≢ j) where
-  failed_other : (what : FileCall) → has_failed_call (with_call made k failed world) j what 0 ≡ has_failed_call world j what 0
-  failed_other what = unlogged what (owner_at world j) 0 (record { kind = made; owner = owner_at world k; failed = failed }) world.calls
+  failed_other : (what : FileCall) (nth : ℕ) → has_failed_call (with_call made k failed world) j what nth ≡ has_failed_call world j what nth
+  failed_other what nth = unlogged what (owner_at world j) nth (record { kind = made; owner = owner_at world k; failed = failed }) world.calls
       (ap (λ t. is_kind made what && t) (other_owner (owner_at world k) world.client j apart) ∙ and_false (is_kind made what))
+
+  sought_other : (n : ℕ) (places : List (List ℕ)) → sought (with_call made k failed world) j n places ≡ sought world j n places
+  sought_other n [] = refl
+  sought_other n (place ∷ places) = (λ i. sought_by (failed_other call.Find n i) (world.tree place) (sought_other (n + 1) places i))
 
   -- a call for another request
   pub reply_other : (r : Request) → reply (with_call made k failed world) j r ≡ reply world j r
@@ -146,7 +150,7 @@ module _ (world : World) (made : FileCall) (k j : ℕ) (failed : Bool) (apart : 
   reply_other (Open head) = refl
   reply_other (Declined status head) = refl
   reply_other (Complete head content) =
-      (λ i. planned_reply j head (continue_of (limit_for world) head) (outcome (settings_of world (Some head)) (failed_other call.Find i) (failed_other call.Open i) (is_served head.method) (world.tree (world.site.root ++ head.target.path))))
+      (λ i. planned_reply j head (continue_of (limit_for world) head) (outcome (settings_of world (Some head)) (sought_other 0 (places_of world.site head) i) (failed_other call.Open 0 i) (is_served head.method)))
 
 -- a call that comes as its request is planned
 pub planned_stays : (world : World) (what : FileCall) (k : ℕ) (failed : Bool) (input output : List ℕ) → Passed k (replies_to world input) output → IsPrefix output (stream_of (with_call what k failed world) input)

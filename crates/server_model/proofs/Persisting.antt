@@ -5,12 +5,11 @@ use Rattle.std.proofs.lemmas.Bool.{false≢true}
 use Rattle.std.proofs.lemmas.Bool.Decides.{nat_tests}
 use Rattle.http_head.specs.Options.{closes}
 use Rattle.http_head.proofs.OptionLemmas.{options_so}
-use Rattle.server_model.specs.Settings.{Settings, request_limit, settings_of, limit_for, is_reached, is_last_request}
+use Rattle.server_model.specs.Settings.{Settings, request_limit, settings_at, settings_of, limit_for, is_reached, is_last_request}
 use Rattle.server_model.specs.Request.{Head, Request, Unfinished, Refused, Open, Declined, Complete, Limits, request_of, rest_of}
 use Rattle.server_model.specs.World.{World, has_failed_call}
-use Rattle.server_model.specs.Plan.{outcome, is_served, plan}
+use Rattle.server_model.specs.Plan.{Sought, Fault, Nowhere, Found, sought, places_of, outcome, is_served, plan}
 use Rattle.server_model.specs.Reply.{reply}
-use Rattle.lt_world.specs.Disk.{Node, Missing, Directory, File}
 use Rattle.lt_world.specs.declared.files.FileCall.TheVariants as call
 use Rattle.server_model.specs.Stream.{is_followed, Passed, left_after, replies_to}
 use Rattle.server_model.proofs.Requests.{complete_front, front_read}
@@ -25,16 +24,15 @@ says_so limits bytes head content is =
     (options_so (take h.0 bytes) head h.1).0
 
 -- a plan comes with the settings of its request
-outcome_settings : (settings : Settings) (find opens served : Bool) (node : Node) → (outcome settings find opens served node).settings ≡ settings
-outcome_settings settings true opens served node = refl
-outcome_settings settings false opens served Missing = refl
-outcome_settings settings false opens served Directory = refl
-outcome_settings settings false opens false (File bytes time) = refl
-outcome_settings settings false true true (File bytes time) = refl
-outcome_settings settings false false true (File bytes time) = refl
+outcome_settings : (settings : Settings) (told : Sought) (opens served : Bool) → (outcome settings told opens served).settings ≡ settings
+outcome_settings settings Fault opens served = refl
+outcome_settings settings Nowhere opens served = refl
+outcome_settings settings (Found bytes) opens false = refl
+outcome_settings settings (Found bytes) true true = refl
+outcome_settings settings (Found bytes) false true = refl
 
 pub plan_settings : (world : World) (k : ℕ) (head : Head) → (plan world k head).settings ≡ settings_of world (Some head)
-plan_settings world k head = outcome_settings (settings_of world (Some head)) (has_failed_call world k call.Find 0) (has_failed_call world k call.Open 0) (is_served head.method) (world.tree (world.site.root ++ head.target.path))
+plan_settings world k head = outcome_settings (settings_of world (Some head)) (sought world k 0 (places_of world.site head)) (has_failed_call world k call.Open 0) (is_served head.method)
 
 -- the reply to a request is the last exactly where its head says so, or no further request may come
 pub last_is : (world : World) (k : ℕ) (bytes : List ℕ) (head : Head) (content : List ℕ) → request_of (limit_for world) bytes ≡ Complete head content → (reply world k (Complete head content)).last ≡ (closes head.minor head.fields || is_reached (settings_of world (Some head)).request_limit k)
@@ -62,6 +60,7 @@ passed_unreached world input before k j head content passed below is = followed_
 
 -- so it isn't where each has the same limit
 followed_below : (world : World) (k : ℕ) (r : Request) → is_followed (reply world k r) ≡ true → k + 1 < request_limit
+unfolding settings_at
 followed_below world k Unfinished is = absurd (false≢true is)
 followed_below world k (Refused status) is = absurd (false≢true is)
 followed_below world k (Open head) is = absurd (false≢true is)

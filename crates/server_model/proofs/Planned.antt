@@ -9,7 +9,7 @@ use Rattle.server_model.specs.Settings.{settings_at}
 use Rattle.server_model.specs.Site.{Site}
 use Rattle.server_model.specs.Request.{Head}
 use Rattle.server_model.specs.World.{Arrival, Side, World, world_at, call_count, has_failed_call, with_call}
-use Rattle.server_model.specs.Plan.{Outcome, error_outcome, file_outcome, is_served, outcome, plan}
+use Rattle.server_model.specs.Plan.{Outcome, error_outcome, file_outcome, is_served, Nowhere, sought_by, outcome, plan}
 use Rattle.server_model.specs.Reply.{reply}
 use Rattle.chunkqueue.specs.Items.{Item, Byte, bytes_of, item_byte, range}
 use Rattle.server_model.specs.Files.{AllFit}
@@ -51,28 +51,31 @@ module _ (site : Site) (client k : ℕ) (head : Head) (owner : Owner) (conn : ow
 
   -- a plan, by what its find and its open told
   plan_at : (w v : World) (o : Outcome) (a b : Bool) (arrival : Option Arrival) → v.site ≡ site → v.side.arrival ≡ arrival → w ≡ v → has_failed_call v k call.Find 0 ≡ a → has_failed_call v k call.Open 0 ≡ b
-      → outcome (settings_at site arrival (Some head)) a b (is_served head.method) (v.tree (v.site.root ++ path)) ≡ o → plan w k head ≡ o
+      → outcome (settings_at site arrival (Some head)) (sought_by a (v.tree (v.site.root ++ path)) Nowhere) b (is_served head.method) ≡ o → plan w k head ≡ o
   plan_at w v o a b arrival here came is find open_is out =
-      ap (λ (u : World). plan u k head) is ∙ (λ i. outcome (settings_at (here i) (came i) (Some head)) (find i) (open_is i) (is_served head.method) (v.tree (v.site.root ++ path))) ∙ out
+      ap (λ (u : World). plan u k head) is
+      ∙ (λ i. outcome (settings_at (here i) (came i) (Some head)) (sought_by (find i) (v.tree (v.site.root ++ path)) Nowhere) (open_is i) (is_served head.method)) ∙ out
 
-  plans_found : (arrival : Option Arrival) (status : ℕ) (failed : Bool) → outcome (settings_at site arrival (Some head)) failed false (is_served head.method) (before.tree (site.root ++ path)) ≡ error_outcome (settings_at site arrival (Some head)) status → PlansError status site arrival client k head before (asked call.Find owner failed before)
+  plans_found : (arrival : Option Arrival) (status : ℕ) (failed : Bool) → outcome (settings_at site arrival (Some head)) (sought_by failed (before.tree (site.root ++ path)) Nowhere) false (is_served head.method) ≡ error_outcome (settings_at site arrival (Some head)) status
+      → PlansError status site arrival client k head before (asked call.Find owner failed before)
   plans_found arrival status failed out = record {
     calls = calls_find failed;
-    plans = λ side came finds opens. plan_at (world_at site (after_find failed) client side) (with_call call.Find k failed (world side)) (error_outcome (settings_at site arrival (Some head)) status) failed false arrival refl came (find_world side failed) (find_failed (world side) k failed finds) (unopened (world side) k failed opens) out;
+    plans = λ side came finds opens. plan_at (world_at site (after_find failed) client side) (with_call call.Find k failed (world side)) (error_outcome (settings_at site arrival (Some head)) status) failed false arrival refl came (find_world side failed)
+        (find_failed (world side) k 0 failed finds) (unopened (world side) k 0 failed opens) out;
   }
 
   pub plans_find_failed : (arrival : Option Arrival) → PlansError 500 site arrival client k head before (asked call.Find owner true before)
   plans_find_failed arrival = plans_found arrival 500 true refl
 
   pub plans_missing : (arrival : Option Arrival) → before.tree (site.root ++ path) ≡ Missing → PlansError 404 site arrival client k head before (asked call.Find owner false before)
-  plans_missing arrival is = plans_found arrival 404 false (ap (outcome (settings_at site arrival (Some head)) false false (is_served head.method)) is)
+  plans_missing arrival is = plans_found arrival 404 false (ap (λ (node : Node). outcome (settings_at site arrival (Some head)) (sought_by false node Nowhere) false (is_served head.method)) is)
 
   pub plans_directory : (arrival : Option Arrival) → before.tree (site.root ++ path) ≡ Directory → PlansError 404 site arrival client k head before (asked call.Find owner false before)
-  plans_directory arrival is = plans_found arrival 404 false (ap (outcome (settings_at site arrival (Some head)) false false (is_served head.method)) is)
+  plans_directory arrival is = plans_found arrival 404 false (ap (λ (node : Node). outcome (settings_at site arrival (Some head)) (sought_by false node Nowhere) false (is_served head.method)) is)
 
   -- a file stands there, and doesn't answer the method
   pub plans_not_allowed : (arrival : Option Arrival) (bytes : List ℕ) (time : ℕ) → before.tree (site.root ++ path) ≡ File bytes time → is_served head.method ≡ false → PlansError 405 site arrival client k head before (asked call.Find owner false before)
-  plans_not_allowed arrival bytes time is other = plans_found arrival 405 false (λ i. outcome (settings_at site arrival (Some head)) false false (other i) (is i))
+  plans_not_allowed arrival bytes time is other = plans_found arrival 405 false (λ i. outcome (settings_at site arrival (Some head)) (sought_by false (is i) Nowhere) false (other i))
 
   open_world : (side : Side) (failed : Bool) → world_at site (after_open failed) client side ≡ with_call call.Open k failed (with_call call.Find k false (world side))
   open_world side failed = asked_is site (after_find false) client k side call.Open owner failed conn request ∙ ap (with_call call.Open k failed) (find_world side false)
@@ -85,10 +88,10 @@ module _ (site : Site) (client k : ℕ) (head : Head) (owner : Owner) (conn : ow
     replies = λ side j r apart. ap (λ (w : World). reply w j r) (open_world side failed) ∙ reply_other (with_call call.Find k false (world side)) call.Open k j failed apart r ∙ reply_other (world side) call.Find k j false apart r;
   }
 
-  plans_opened : (arrival : Option Arrival) (o : Outcome) (failed : Bool) (node : Node) → before.tree (site.root ++ path) ≡ node → is_served head.method ≡ true → outcome (settings_at site arrival (Some head)) false failed true node ≡ o → PlansTo o site arrival client k head before (after_open failed)
+  plans_opened : (arrival : Option Arrival) (o : Outcome) (failed : Bool) (node : Node) → before.tree (site.root ++ path) ≡ node → is_served head.method ≡ true → outcome (settings_at site arrival (Some head)) (sought_by false node Nowhere) failed true ≡ o → PlansTo o site arrival client k head before (after_open failed)
   plans_opened arrival o failed node is served out side came finds opens =
-      plan_at (world_at site (after_open failed) client side) (with_call call.Open k failed (with_call call.Find k false (world side))) o false failed arrival refl came (open_world side failed) (find_stays (world side) k false failed finds) (open_failed (world side) k false failed opens)
-      ((λ i. outcome (settings_at site arrival (Some head)) false failed (served i) (is i)) ∙ out)
+      plan_at (world_at site (after_open failed) client side) (with_call call.Open k failed (with_call call.Find k false (world side))) o false failed arrival refl came (open_world side failed) (find_stays (world side) k 0 false failed finds) (open_failed (world side) k 0 false failed opens)
+      ((λ i. outcome (settings_at site arrival (Some head)) (sought_by false (is i) Nowhere) failed (served i)) ∙ out)
 
   pub plans_open_failed : (arrival : Option Arrival) (bytes : List ℕ) (time : ℕ) → before.tree (site.root ++ path) ≡ File bytes time → is_served head.method ≡ true → PlansError 500 site arrival client k head before (asked call.Open owner true (asked call.Find owner false before))
   plans_open_failed arrival bytes time is served = record { calls = calls_open true; plans = plans_opened arrival (error_outcome (settings_at site arrival (Some head)) 500) true (File bytes time) is served refl }

@@ -1,6 +1,7 @@
 -- What is planned for a request, by what stands at its path and by the calls on files.
-use Rattle.std.specs.Prelude.{ℕ, ◌==◌, List, [], ◌∷◌, ◌++◌, Bool, true, false, ◌||◌, Some, if◌then◌else◌, bytes_eq, codes}
+use Rattle.std.specs.Prelude.{ℕ, ◌+◌, ◌==◌, List, [], ◌∷◌, ◌++◌, Bool, true, false, ◌||◌, Some, if◌then◌else◌, bytes_eq, codes}
 use Rattle.lt_world.specs.declared.files.FileCall.TheVariants as call
+use Rattle.server_model.specs.Site.{Site}
 use Rattle.server_model.specs.World.{World, has_failed_call}
 use Rattle.server_model.specs.Settings.{Settings, settings_of}
 use Rattle.http_reply.specs.FieldLines.{FieldLines}
@@ -41,15 +42,39 @@ file_fields = (codes "Content-Type", codes "application/octet-stream") ∷ []
 abbrev pub file_outcome : Settings → List ℕ → Outcome
 file_outcome settings bytes = record { settings = settings; status = 200; fields = file_fields; content = Bytes bytes }
 
--- by whether the find and the open failed, and whether a file answers the method
-abbrev pub outcome : Settings → Bool → Bool → Bool → Node → Outcome
-outcome settings true open_failed served node = error_outcome settings 500
-outcome settings false open_failed served Missing = error_outcome settings 404
-outcome settings false open_failed served Directory = error_outcome settings 404
-outcome settings false open_failed false (File bytes time) = error_outcome settings 405
-outcome settings false true true (File bytes time) = error_outcome settings 500
-outcome settings false false true (File bytes time) = file_outcome settings bytes
+-- what the finds of a request told, one for each of its places in their order
+pub data Sought : Type 0 where
+  -- one of them failed
+  Fault : Sought
+  -- a file stands at none of them
+  Nowhere : Sought
+  -- the first file, with its bytes
+  Found : List ℕ → Sought
 
--- the plan of request k: a find at the root and the path, and an open where a file stands there
+-- by whether the find at a place failed and what stands there, before the other places
+abbrev pub sought_by : Bool → Node → Sought → Sought
+sought_by true node others = Fault
+sought_by false Missing others = others
+sought_by false Directory others = others
+sought_by false (File bytes time) others = Found bytes
+
+-- the finds of request k at these places, the first of which has number n
+abbrev pub sought : World → ℕ → ℕ → List (List ℕ) → Sought
+sought world k n [] = Nowhere
+sought world k n (place ∷ places) = sought_by (has_failed_call world k call.Find n) (world.tree place) (sought world k (n + 1) places)
+
+-- where a file is looked for: at the root and the path
+abbrev pub places_of : Site → Head → List (List ℕ)
+places_of site head = (site.root ++ head.target.path) ∷ []
+
+-- by what the finds told, whether the open failed, and whether a file answers the method
+abbrev pub outcome : Settings → Sought → Bool → Bool → Outcome
+outcome settings Fault open_failed served = error_outcome settings 500
+outcome settings Nowhere open_failed served = error_outcome settings 404
+outcome settings (Found bytes) open_failed false = error_outcome settings 405
+outcome settings (Found bytes) true true = error_outcome settings 500
+outcome settings (Found bytes) false true = file_outcome settings bytes
+
+-- the plan of request k: a find at each place up to the first file, and an open of that one
 abbrev pub plan : World → ℕ → Head → Outcome
-plan world k head = outcome (settings_of world (Some head)) (has_failed_call world k call.Find 0) (has_failed_call world k call.Open 0) (is_served head.method) (world.tree (world.site.root ++ head.target.path))
+plan world k head = outcome (settings_of world (Some head)) (sought world k 0 (places_of world.site head)) (has_failed_call world k call.Open 0) (is_served head.method)

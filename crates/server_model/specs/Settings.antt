@@ -16,8 +16,8 @@ pub record Settings : Type 0 where
 abbrev pub request_limit : ℕ
 request_limit = 100
 
--- those for a request of a client that came so, of which this head was read, or none
-abbrev pub settings_at : Site → Option Arrival → Option Head → Settings
+-- those for a request of a client that came so, of which this head was read, or none; proofs know nothing of them but where they say so
+unfoldable pub settings_at : Site → Option Arrival → Option Head → Settings
 settings_at site arrival head = record { tag = codes "lighttpd"; request_limit = request_limit; body_limit = 1048576 }
 
 abbrev pub settings_of : World → Option Head → Settings

@@ -19,4 +19,4 @@ returns-clause-settles g c =
     (c.settings_for-settings.ensures.tag ∙ ap (λ (o : Option Head). (settings_at (served c.args.site.now) (Some (arrival_of c.args.conn.now.held)) o).tag) (ap head_at whole.2))
     c.requires.fits
     (λ f. plans_at c.plan-planned.result (served c.args.site.now) (Some (arrival_of c.args.conn.now.held)) c.owner-owner.result.conn c.args.conn.now.held.link c.owner-owner.result.request (number_of c.args.conn.now.held.stage) c.in-Some.request.now whole.0 (g.F.Files.disk c.args.files.now) (g.F.Files.disk c.plan-planned.new.files)
-    c.owner-owner.ensures.conn c.owner-owner.ensures.request same (c.plan-planned.ensures.plans (Some (arrival_of c.args.conn.now.held)) f))
+    c.owner-owner.ensures.conn c.owner-owner.ensures.request same (c.plan-planned.ensures.plans f))
