@@ -20,7 +20,7 @@ use Rattle.server_model.specs.Held.{Stage, Awaiting, Heading, Taking, Asking, An
 use Rattle.server_model.specs.Steps.{looked, fed, fed_at, advanced, advanced_at, has_no_bytes, has_no_items, is_in_memory}
 use Rattle.connection.specs.declared.progress.Progress.{Progress}
 use Rattle.connection.specs.declared.progress.Progress.TheVariants as progress
-use Rattle.connection.specs.Inside.{stage_by, IsAt, IsContentAt, content_limit}
+use Rattle.connection.specs.Inside.{stage_by, IsAt, IsContentAt, IsSeen, content_limit}
 use Rattle.connection.specs.Progress.{progress_after, has_memory}
 use Rattle.connection.specs.Stages.{next_number, next_number_at, feeds, feeds_at}
 use Rattle.connection.proofs.Memory.{memory_more, front_more, front_dropped}
@@ -120,6 +120,13 @@ fed_empty head s' (Ok body.Done) content = tt
 fed_empty head s' (Err refused.BadChunk) content = tt
 fed_empty head s' (Err refused.TooLarge) content = tt
 fed_empty head s' (Err refused.NoMemory) content = tt
+
+pub fed_seen : (head : Head) (s' : Standing) (answer : Result BodyState BodyRefusal) (input : Contents) → IsSeen (progress_after (progress.Taking head s') answer) input
+fed_seen head s' (Ok body.NeedMore) input = tt
+fed_seen head s' (Ok body.Done) input = tt
+fed_seen head s' (Err refused.BadChunk) input = tt
+fed_seen head s' (Err refused.TooLarge) input = tt
+fed_seen head s' (Err refused.NoMemory) input = tt
 
 -- the queues behind a call, whatever it answered
 pub record Fed (input' content' : Contents) : Type 0 where

@@ -1,21 +1,14 @@
 -- What the first chunk shows of the bytes that came.
-use Rattle.std.proofs.Common.{◌≡◌, ℕ, zero, suc, ◌-◌, ◌≤◌, true, List, [], ◌∷◌, ◌++◌, length, map, take, drop, refl, ap, sym, ◌∙◌, subst, arith}
-use Rattle.std.specs.Prelude.{Result, Ok, Err, IfOk}
-use Rattle.std.proofs.lemmas.List.{take_all, take-append-drop, length-take, take-take}
+use Rattle.std.proofs.Common.{◌≡◌, ℕ, zero, suc, ◌≤◌, true, List, [], ◌∷◌, ◌++◌, length, map, take, drop, refl, ap, sym, ◌∙◌, subst, arith}
+use Rattle.std.proofs.lemmas.List.{take_all, take-append-drop, take-take}
 use Rattle.chunkqueue.specs.Items.{Item, Byte, FileByte, memory_front, Leads}
 use Rattle.server_model.specs.Steps.{is_in_memory}
-use Rattle.server_model.specs.Request.{front_of}
-use Rattle.lt_bytes.specs.declared.memory.NoMemory.{NoMemory}
 use Rattle.http_head.specs.declared.ends.HeadEnd.{HeadEnd}
 use Rattle.http_head.specs.declared.ends.HeadEnd.TheVariants as end
-use Rattle.http_head.specs.declared.limits.TheConstants.{HEAD_LIMIT}
-use Rattle.http_head.specs.Ends.{head_end, IsWithin}
-use Rattle.http_head.specs.Head.{head_of}
-use Rattle.http_head.proofs.EndLemmas.{at_stays}
-use Rattle.connection.specs.declared.looking.Looked.{Looked}
-use Rattle.connection.specs.declared.looking.Looked.TheVariants as looked
-use Rattle.connection.specs.Looking.{looked_by, looked_at, looked_of, front_with, taken_in, IsLooked}
-use Rattle.connection.proofs.Heads.{front_found, taken_within}
+use Rattle.http_head.specs.declared.scan.HeadScan.{HeadScan}
+use Rattle.http_head.specs.Ends.{head_end}
+use Rattle.http_head.specs.Scan.{IsScan}
+use Rattle.http_head.proofs.ScanLemmas.{over_stays}
 use Rattle.connection.proofs.Memory.{front_length}
 
 bytes_front : (bytes : List ℕ) → memory_front (map Byte bytes) ≡ bytes
@@ -35,41 +28,22 @@ first_bytes (Byte b ∷ items) staged front leads is =
     sym (bytes_front front) ∙ ap memory_front leads.1 ∙ front_taken (length front) (Byte b ∷ items) is
 first_bytes (FileByte file at ∷ items) staged front leads is = cc
 
--- what ends there ends among all that came
-end_in_first : (bytes front : List ℕ) (n : ℕ) → front ≡ take (length front) bytes → head_end front ≡ end.At n → head_end bytes ≡ end.At n
-end_in_first bytes front n first at =
-    let whole : front ++ drop (length front) bytes ≡ bytes = ap (λ (l : List ℕ). l ++ drop (length front) bytes) first ∙ take-append-drop (length front) bytes in
-    ap head_end (sym whole) ∙ at_stays HEAD_LIMIT front (drop (length front) bytes) n at
-
-first_within : (bytes front : List ℕ) → front ≡ take (length front) bytes → length front ≤ length bytes
-first_within bytes front first = omega (arith, ap (λ (l : List ℕ). length l) first, length-take (length front) bytes)
-
-is_looked_at : (bytes : List ℕ) (found : Looked) → IsWithin (length bytes) (head_end bytes) → found ≡ looked_at (head_end bytes) bytes → IsLooked bytes found
-unfolding front_of
-is_looked_at bytes found within is =
-    subst (IsLooked bytes) (sym is) (record { front = front_found (head_end bytes) bytes; within = taken_within (head_end bytes) (length bytes) bytes within })
-
--- a whole head in the first chunk
-pub looked_first : (items : List Item) (staged front part : List ℕ) (n : ℕ) (result : Result Looked NoMemory) → Leads items staged front → is_in_memory items ≡ true
-    → end.At n ≡ head_end front → IsWithin (length front) (end.At n) → part ≡ take n front → IfOk result (λ found. found ≡ looked_by (length part) (head_of part))
-    → IfOk result (IsLooked (memory_front items))
-looked_first items staged front part n (Err error) leads is at within cut found = tt
-looked_first items staged front part n (Ok x) leads is at within cut found =
+-- they are all that came
+pub first_whole : (items : List Item) (staged front : List ℕ) (scan : HeadScan) → Leads items staged front → is_in_memory items ≡ true → length front ≡ length items → IsScan front scan → IsScan (memory_front items) scan
+first_whole items staged front scan leads is all seen =
     let bytes : List ℕ = memory_front items in
-    let first = first_bytes items staged front leads is in
-    let len = first_within bytes front first in
-    let ends : head_end bytes ≡ end.At n = end_in_first bytes front n first (sym at) in
-    let same : part ≡ take n bytes = cut ∙ ap (take n) first ∙ take-take n (length front) bytes (omega (arith, within.1)) in
-    let fits : length part ≡ n = ap (λ (l : List ℕ). length l) cut ∙ omega (arith, within.1, length-take n front) in
-    is_looked_at bytes x (subst (IsWithin (length bytes)) (sym ends) (within.0, omega (arith, within.1, len)))
-    (found ∙ ap (λ (m : ℕ). looked_by m (head_of part)) fits ∙ ap (λ (l : List ℕ). looked_by n (head_of l)) same ∙ ap (λ (e : HeadEnd). looked_at e bytes) (sym ends))
+    subst (λ (l : List ℕ). IsScan l scan) (first_bytes items staged front leads is ∙ take_all (length front) bytes (omega (arith, all, front_length items is))) seen
 
--- no head, and nothing else came
-pub none_first : (items : List Item) (staged front : List ℕ) → Leads items staged front → is_in_memory items ≡ true → length front ≡ length items
-    → head_end front ≡ end.NotYet → IsLooked (memory_front items) looked.Unfinished
-none_first items staged front leads is all not_yet =
+-- what is known of them holds of all that came
+pub first_over : (items : List Item) (staged front : List ℕ) (scan : HeadScan) → Leads items staged front → is_in_memory items ≡ true → (head_end front ≡ end.NotYet → ⊥) → IsScan front scan → IsScan (memory_front items) scan
+first_over items staged front scan leads is over seen =
     let bytes : List ℕ = memory_front items in
-    let first = first_bytes items staged front leads is in
-    let whole : front ≡ bytes = first ∙ take_all (length front) bytes (omega (arith, all, front_length items is)) in
-    let ends : head_end bytes ≡ end.NotYet = ap head_end (sym whole) ∙ not_yet in
-    is_looked_at bytes looked.Unfinished (subst (IsWithin (length bytes)) (sym ends) tt) (ap (λ (e : HeadEnd). looked_at e bytes) (sym ends))
+    let whole : front ++ drop (length front) bytes ≡ bytes = ap (λ (l : List ℕ). l ++ drop (length front) bytes) (first_bytes items staged front leads is) ∙ take-append-drop (length front) bytes in
+    subst (λ (l : List ℕ). IsScan l scan) whole (over_stays front (drop (length front) bytes) scan seen over)
+
+pub at_over : (bytes : List ℕ) (e : HeadEnd) (n : ℕ) → e ≡ head_end bytes → e ≡ end.At n → head_end bytes ≡ end.NotYet → ⊥
+at_over bytes e n same is not_yet = cc
+
+-- the first of them are the first that came
+pub first_part : (items : List Item) (staged front : List ℕ) (n : ℕ) → Leads items staged front → is_in_memory items ≡ true → n ≤ length front → take n front ≡ take n (memory_front items)
+first_part items staged front n leads is fits = ap (take n) (first_bytes items staged front leads is) ∙ take-take n (length front) (memory_front items) fits

@@ -38,7 +38,7 @@ items_again (FileByte file at ∷ items) is = absurd (cc)
 
 pub content_whole : (number : ℕ) (p : Progress) (body : Contents) → is_in_memory (items_of body) ≡ true → is_whole (stage_by number p (memory_front (items_of body))) ≡ true
     → items_of body ≡ map Byte (content_at (stage_by number p (memory_front (items_of body))))
-content_whole number progress.Awaiting body memory whole = absurd (cc)
+content_whole number (progress.Awaiting scan) body memory whole = absurd (cc)
 content_whole number (progress.Heading request) body memory whole = absurd (cc)
 content_whole number (progress.Taking request s) body memory whole = absurd (cc)
 content_whole number (progress.Whole request) body memory whole = items_again (items_of body) memory
@@ -49,7 +49,7 @@ content_whole number (progress.Answering last) body memory whole = absurd (cc)
 -- ---- a reply
 
 pub number_by : (number : ℕ) (p : Progress) (content : List ℕ) → number_of (stage_by number p content) ≡ number
-number_by number progress.Awaiting content = refl
+number_by number (progress.Awaiting scan) content = refl
 number_by number (progress.Heading request) content = refl
 number_by number (progress.Taking request s) content = refl
 number_by number (progress.Whole request) content = refl

@@ -13,8 +13,10 @@ use Rattle.connection.specs.declared.progress.Progress.{Progress}
 use Rattle.connection.specs.declared.progress.Progress.TheVariants as progress
 use Rattle.connection.specs.declared.looking.Looked.{Looked}
 use Rattle.connection.specs.declared.looking.Looked.TheVariants as found
+use Rattle.http_head.specs.Scan.{IsScan}
+use Rattle.http_head.specs.declared.scan.HeadScan.{HeadScan}
 use Rattle.connection.specs.Connection.{Connected}
-use Rattle.connection.specs.Inside.{connected_of, stage_by, IsAt, IsContentAt, IsConn}
+use Rattle.connection.specs.Inside.{connected_of, stage_by, IsAt, IsContentAt, IsConn, IsSeen}
 use Rattle.connection.specs.declared.connection.Conn.TheInside.{Inside}
 use Rattle.connection.specs.Stages.{next_number_at}
 use Rattle.connection.specs.Looking.{front_with, taken_in, progress_of, IsLooked}
@@ -44,22 +46,33 @@ room_is old now n is reads stays size =
     ∙ ap room_of is
 
 -- bytes come behind
-pub got_memory : {T E : Type 0} (r : Result T E) (before after : Contents) (bytes : List ℕ) → OnOk r (items_of after ≡ items_of before ++ map Byte bytes) → OnErr r (after ≡ before)
-    → is_in_memory (items_of before) ≡ true → is_in_memory (items_of after) ≡ true
-got_memory (Ok x) before after bytes ok err memory = ap is_in_memory ok ∙ memory_more (items_of before) bytes memory
-got_memory (Err x) before after bytes ok err memory = ap (λ (q : Contents). is_in_memory (items_of q)) err ∙ memory
+pub got_memory : (before after : Contents) (bytes : List ℕ) → items_of after ≡ items_of before ++ map Byte bytes → is_in_memory (items_of before) ≡ true → is_in_memory (items_of after) ≡ true
+got_memory before after bytes is memory = ap is_in_memory is ∙ memory_more (items_of before) bytes memory
 
-pub got_within : {T E : Type 0} (r : Result T E) (before after : Contents) (bytes : List ℕ) → OnOk r (items_of after ≡ items_of before ++ map Byte bytes) → OnErr r (after ≡ before)
-    → count_of before + length bytes ≤ input_limit → count_of after ≤ input_limit
-got_within (Ok x) before after bytes ok err fits = omega (arith, ap (λ (l : List Item). length l) ok, length-append (items_of before) (map Byte bytes), length-map bytes Byte, fits)
-got_within (Err x) before after bytes ok err fits = omega (arith, ap count_of err, fits)
+pub got_within : (before after : Contents) (bytes : List ℕ) → items_of after ≡ items_of before ++ map Byte bytes → count_of before + length bytes ≤ input_limit → count_of after ≤ input_limit
+got_within before after bytes is fits = omega (arith, ap (λ (l : List Item). length l) is, length-append (items_of before) (map Byte bytes), length-map bytes Byte, fits)
 
-pub got_held : {T E : Type 0} (r : Result T E) (old now : Held) (before after : Contents) (bytes : List ℕ) → OnOk r (items_of after ≡ items_of before ++ map Byte bytes)
-    → is_in_memory (items_of before) ≡ true → memory_front (items_of before) ≡ old.input → old ≡ now → OnOk r (record old { input = memory_front (items_of after) } ≡ received now bytes)
-got_held (Err x) old now before after bytes ok memory is same = tt
-got_held (Ok x) old now before after bytes ok memory is same =
+pub got_held : (old now : Held) (before after : Contents) (bytes : List ℕ) → items_of after ≡ items_of before ++ map Byte bytes → is_in_memory (items_of before) ≡ true → memory_front (items_of before) ≡ old.input → old ≡ now
+    → record old { input = memory_front (items_of after) } ≡ received now bytes
+got_held old now before after bytes ok memory is same =
     ap (λ (l : List ℕ). record old { input = l }) (ap memory_front ok ∙ front_more (items_of before) bytes memory ∙ ap (λ (l : List ℕ). l ++ bytes) is)
     ∙ ap (λ (h : Held). received h bytes) same
+
+-- no head is awaited
+pub got_unseen : (p : Progress) (input : Contents) → ((scan : HeadScan) → p ≡ progress.Awaiting scan → ⊥) → IsSeen p input
+got_unseen (progress.Awaiting scan) input not = absurd (not scan refl)
+got_unseen (progress.Heading request) input not = tt
+got_unseen (progress.Taking request s) input not = tt
+got_unseen (progress.Whole request) input not = tt
+got_unseen (progress.Refused status) input not = tt
+got_unseen (progress.Declined status request) input not = tt
+got_unseen (progress.Answering last) input not = tt
+
+-- what is seen of it
+pub got_seen : (before after : Contents) (bytes : List ℕ) (old new : HeadScan) → items_of after ≡ items_of before ++ map Byte bytes → is_in_memory (items_of before) ≡ true
+    → IsScan (memory_front (items_of before)) old → ((b : List ℕ) → IsScan b old → IsScan (b ++ bytes) new) → IsScan (memory_front (items_of after)) new
+got_seen before after bytes old new is memory seen sees =
+    subst (λ (l : List ℕ). IsScan l new) (sym (ap memory_front is ∙ front_more (items_of before) bytes memory)) (sees (memory_front (items_of before)) seen)
 
 -- ---- what is owed
 
@@ -76,7 +89,7 @@ staged_within (Ok x) before after items ok err within = omega (arith, ap (λ (l 
 staged_within (Err x) before after items ok err within = subst (λ (q : Contents). length (staged_of q) ≤ count_of q) (sym err) within
 
 pub rests_same : (number : ℕ) (p : Progress) (before after : Contents) (file : Option FileId) → items_of after ≡ items_of before → IsAt number p before file → IsAt number p after file
-rests_same number progress.Awaiting before after file items is = (items ∙ is.0, is.1)
+rests_same number (progress.Awaiting scan) before after file items is = (items ∙ is.0, is.1)
 rests_same number (progress.Heading request) before after file items is = (items ∙ is.0, is.1)
 rests_same number (progress.Taking request s) before after file items is = (omega (arith, ap (λ (l : List Item). length l) items, is.0), is.1)
 rests_same number (progress.Whole request) before after file items is = omega (arith, ap (λ (l : List Item). length l) items, is)
@@ -93,7 +106,7 @@ none_owed (item ∷ items) k n is = cc
 -- a request is looked for once nothing is owed, and no content is held then
 pub next_rests : (number : ℕ) (p : Progress) (content : List ℕ) (output : Contents) (file : Option FileId) (n : ℕ) → next_number_at (stage_by number p content) (items_of output) ≡ Some n → IsAt number p output file
     → (items_of output ≡ []) × (file ≡ None)
-next_rests number progress.Awaiting content output file n next is = is
+next_rests number (progress.Awaiting scan) content output file n next is = is
 next_rests number (progress.Heading request) content output file n next is = absurd (cc)
 next_rests number (progress.Taking request s) content output file n next is = absurd (cc)
 next_rests number (progress.Whole request) content output file n next is = absurd (cc)
@@ -104,7 +117,7 @@ next_rests number (progress.Answering false) content output file n next is =
     let none = none_owed (items_of output) (number + 1) n next in (none, is.0 none)
 
 pub next_empty : (number : ℕ) (p : Progress) (content : List ℕ) (body : Contents) (owed : List Item) (n : ℕ) → next_number_at (stage_by number p content) owed ≡ Some n → IsContentAt p body → items_of body ≡ []
-next_empty number progress.Awaiting content body owed n next is = is
+next_empty number (progress.Awaiting scan) content body owed n next is = is
 next_empty number (progress.Heading request) content body owed n next is = is
 next_empty number (progress.Taking request s) content body owed n next is = absurd (cc)
 next_empty number (progress.Whole request) content body owed n next is = absurd (cc)
@@ -112,20 +125,26 @@ next_empty number (progress.Refused status) content body owed n next is = is
 next_empty number (progress.Declined status request) content body owed n next is = absurd (cc)
 next_empty number (progress.Answering last) content body owed n next is = is
 
-pub found_rests : (n : ℕ) (f : Looked) (output : Contents) (file : Option FileId) → (items_of output ≡ []) × (file ≡ None) → IsAt n (progress_of f) output file
-found_rests n found.Unfinished output file is = is
-found_rests n (found.Refused status) output file is = omega (arith, ap (λ (l : List Item). length l) is.0)
-found_rests n (found.Headed request taken) output file is = is
+pub found_rests : (n : ℕ) (f : Looked) (scan : HeadScan) (output : Contents) (file : Option FileId) → (items_of output ≡ []) × (file ≡ None) → IsAt n (progress_of f scan) output file
+found_rests n found.Unfinished scan output file is = is
+found_rests n (found.Refused status) scan output file is = omega (arith, ap (λ (l : List Item). length l) is.0)
+found_rests n (found.Headed request taken) scan output file is = is
 
-pub found_empty : (f : Looked) (body : Contents) → items_of body ≡ [] → IsContentAt (progress_of f) body
-found_empty found.Unfinished body is = is
-found_empty (found.Refused status) body is = is
-found_empty (found.Headed request taken) body is = is
+-- a head that isn't whole is awaited with what was seen
+pub found_seen : (f : Looked) (scan : HeadScan) (before after : Contents) → items_of after ≡ drop (taken_in f) (items_of before) → IsScan (memory_front (items_of before)) scan → IsSeen (progress_of f scan) after
+found_seen found.Unfinished scan before after is seen = subst (λ (l : List Item). IsScan (memory_front l) scan) (sym is) seen
+found_seen (found.Refused status) scan before after is seen = tt
+found_seen (found.Headed request taken) scan before after is seen = tt
 
-looked_with : (k : ℕ) (f : Looked) (content : List ℕ) (old : Held) → record old { stage = stage_by k (progress_of f) content; input = drop (taken_in f) old.input } ≡ looked_at k (front_with f (drop (taken_in f) old.input)) old
-looked_with k found.Unfinished content old = refl
-looked_with k (found.Refused status) content old = refl
-looked_with k (found.Headed request taken) content old = refl
+pub found_empty : (f : Looked) (scan : HeadScan) (body : Contents) → items_of body ≡ [] → IsContentAt (progress_of f scan) body
+found_empty found.Unfinished scan body is = is
+found_empty (found.Refused status) scan body is = is
+found_empty (found.Headed request taken) scan body is = is
+
+looked_with : (k : ℕ) (f : Looked) (scan : HeadScan) (content : List ℕ) (old : Held) → record old { stage = stage_by k (progress_of f scan) content; input = drop (taken_in f) old.input } ≡ looked_at k (front_with f (drop (taken_in f) old.input)) old
+looked_with k found.Unfinished scan content old = refl
+looked_with k (found.Refused status) scan content old = refl
+looked_with k (found.Headed request taken) scan content old = refl
 
 -- what was found is within what came
 pub taken_fits : (input : Contents) (f : Looked) → is_in_memory (items_of input) ≡ true → IsLooked (memory_front (items_of input)) f → taken_in f ≤ count_of input
@@ -137,10 +156,10 @@ skipped_memory before after n is memory = ap is_in_memory is ∙ memory_dropped 
 pub skipped_within : (before after : Contents) (n : ℕ) → items_of after ≡ drop n (items_of before) → count_of before ≤ input_limit → count_of after ≤ input_limit
 skipped_within before after n is within = omega (arith, ap (λ (l : List Item). length l) is, length-drop n (items_of before), within)
 
-pub taken_up : (old now : Held) (k : ℕ) (f : Looked) (content : List ℕ) (before after : Contents) → old ≡ now → memory_front (items_of before) ≡ old.input → is_in_memory (items_of before) ≡ true
+pub taken_up : (old now : Held) (k : ℕ) (f : Looked) (scan : HeadScan) (content : List ℕ) (before after : Contents) → old ≡ now → memory_front (items_of before) ≡ old.input → is_in_memory (items_of before) ≡ true
     → IsLooked (memory_front (items_of before)) f → items_of after ≡ drop (taken_in f) (items_of before)
-    → record old { stage = stage_by k (progress_of f) content; input = memory_front (items_of after) } ≡ looked k now
-taken_up old now k f content before after same is memory was items =
+    → record old { stage = stage_by k (progress_of f scan) content; input = memory_front (items_of after) } ≡ looked k now
+taken_up old now k f scan content before after same is memory was items =
     let rest : memory_front (items_of after) ≡ drop (taken_in f) old.input = ap memory_front items ∙ front_dropped (taken_in f) (items_of before) memory ∙ ap (drop (taken_in f)) is in
     let front : front_of old.input ≡ front_with f (drop (taken_in f) old.input) = subst (λ (l : List ℕ). front_of l ≡ front_with f (drop (taken_in f) l)) is was.front in
-    ap (λ (l : List ℕ). record old { stage = stage_by k (progress_of f) content; input = l }) rest ∙ looked_with k f content old ∙ ap (λ (at : Front). looked_at k at old) (sym front) ∙ ap (looked k) same
+    ap (λ (l : List ℕ). record old { stage = stage_by k (progress_of f scan) content; input = l }) rest ∙ looked_with k f scan content old ∙ ap (λ (at : Front). looked_at k at old) (sym front) ∙ ap (looked k) same

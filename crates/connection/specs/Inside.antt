@@ -2,6 +2,7 @@
 use Rattle.std.specs.Prelude.{◌≡◌, ℕ, ◌≤◌, ◌<◌, ◌^◌, ◌-◌, ◌++◌, List, [], length, true, false, Option, None}
 use Rattle.lt_world.specs.declared.files.FileId.{FileId}
 use Rattle.chunkqueue.specs.Items.{Contents, items_of, count_of, staged_of, front_of, memory_front}
+use Rattle.http_head.specs.Scan.{IsScan}
 use Rattle.server_model.specs.Request.{Refused, Declined, Complete}
 use Rattle.server_model.specs.Client.{input_limit}
 use Rattle.server_model.specs.Held as model
@@ -13,7 +14,7 @@ use Rattle.connection.specs.declared.connection.Conn.TheInside.{Inside}
 
 -- by the content so far
 abbrev pub stage_by : ℕ → Progress → List ℕ → model.Stage
-stage_by number progress.Awaiting content = model.Awaiting number
+stage_by number (progress.Awaiting scan) content = model.Awaiting number
 stage_by number (progress.Heading request) content = model.Heading number request
 stage_by number (progress.Taking request s) content = model.Taking number request s content
 stage_by number (progress.Whole request) content = model.Asking number (Complete request content)
@@ -48,7 +49,7 @@ content_limit = 2 ^ 62
 
 -- what is owed before a request is answered; a file is kept only for what is owed, and a reply with the greatest number is the last
 abbrev pub IsAt : ℕ → Progress → Contents → Option FileId → Type 0
-IsAt number progress.Awaiting output file = (items_of output ≡ []) × (file ≡ None)
+IsAt number (progress.Awaiting scan) output file = (items_of output ≡ []) × (file ≡ None)
 IsAt number (progress.Heading request) output file = (items_of output ≡ []) × (file ≡ None)
 IsAt number (progress.Taking request s) output file = (count_of output ≤ continue_size) × (file ≡ None)
 IsAt number (progress.Answering last) output file = (items_of output ≡ [] → file ≡ None) × (last ≡ false → number < 2 ^ 32 - 1)
@@ -56,15 +57,21 @@ IsAt number asking output file = count_of output ≤ continue_size
 
 -- content is held only of a body that is read, is whole or is refused
 abbrev pub IsContentAt : Progress → Contents → Type 0
-IsContentAt progress.Awaiting body = items_of body ≡ []
+IsContentAt (progress.Awaiting scan) body = items_of body ≡ []
 IsContentAt (progress.Heading request) body = items_of body ≡ []
 IsContentAt (progress.Refused status) body = items_of body ≡ []
 IsContentAt (progress.Answering last) body = items_of body ≡ []
 IsContentAt with_body body = Unit {0}
 
+-- a head that is awaited was looked for in all that came
+abbrev pub IsSeen : Progress → Contents → Type 0
+IsSeen (progress.Awaiting scan) input = IsScan (memory_front (items_of input)) scan
+IsSeen other input = Unit {0}
+
 pub record IsConn (c : Inside) : Type 0 where
   pub memory : is_in_memory (items_of c.input) ≡ true
   pub within : count_of c.input ≤ input_limit
+  pub seen : IsSeen c.progress c.input
   pub staged : length (staged_of c.output) ≤ count_of c.output
   pub rests : IsAt c.number c.progress c.output c.file
   pub content : is_in_memory (items_of c.body) ≡ true

@@ -3,6 +3,7 @@ use Rattle.std.specs.Prelude.{◌≡◌, ℕ, ◌≤◌, List, length, take, dro
 use Rattle.http_head.specs.declared.ends.HeadEnd.{HeadEnd}
 use Rattle.http_head.specs.declared.ends.HeadEnd.TheVariants as end
 use Rattle.http_head.specs.declared.refusal.HeadRefusal.{HeadRefusal}
+use Rattle.http_head.specs.declared.scan.HeadScan.{HeadScan}
 use Rattle.http_head.specs.Ends.{head_end}
 use Rattle.http_head.specs.Head.{head_of}
 use Rattle.server_model.specs.Request.{Head, Front, NoHead, BadHead, HasHead, front_of, status_of}
@@ -38,10 +39,10 @@ taken_in (looked.Refused status) = 0
 taken_in (looked.Headed request taken) = taken
 
 -- how far the request is, by what was found
-abbrev pub progress_of : Looked → Progress
-progress_of looked.Unfinished = progress.Awaiting
-progress_of (looked.Refused status) = progress.Refused status
-progress_of (looked.Headed request taken) = progress.Heading request
+abbrev pub progress_of : Looked → HeadScan → Progress
+progress_of looked.Unfinished scan = progress.Awaiting scan
+progress_of (looked.Refused status) scan = progress.Refused status
+progress_of (looked.Headed request taken) scan = progress.Heading request
 
 -- what was found is what these bytes begin with
 pub record IsLooked (bytes : List ℕ) (found : Looked) : Type 0 where

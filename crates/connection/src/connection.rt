@@ -4,14 +4,15 @@ ghost use Rattle.buffer_pool.specs.Kept.{Kept, HeldWithin};
 ghost use Rattle.lt_world.specs.Causes.{Rose};
 ghost use Rattle.chunkqueue.specs.Items.{Byte, Leads, Shows, AllLie, empty, items_of, count_of, staged_of};
 ghost use Rattle.server_model.specs.Steps.{arrived, received, received_end, advanced, looked, looks, accepted, answered, holding, wrote, staged, has_no_items, number_of, is_read_at, room_of};
+ghost use Rattle.http_head.specs.Scan.{IsScan};
 ghost use Rattle.connection.specs.Connection.{file_number, head_at, content_at, without_content, IsHeldUp, IsBodyOf};
 ghost use Rattle.connection.specs.Stages.{stage_of, is_heading, is_taking, is_whole, is_asking, feeds, next_number};
 
-use crate::looking::{continue_bytes, look, skip};
+use crate::looking::{continue_bytes, look, scanned, skip};
 use crate::progress::{Progress, with_memory};
 use crate::stage::Stage;
 use chunkqueue::{BUFFER_SIZE, Chunks, Queue, Store};
-use http_head::Request;
+use http_head::{HeadScan, Request};
 use lt_bytes::NoMemory;
 use lt_world::{Address, Fault, FileId, Files, Link, Owner};
 use std::alloc::Global;
@@ -67,7 +68,7 @@ impl Conn {
             local,
             input: Chunks::new(),
             number: 0,
-            progress: Progress::Awaiting,
+            progress: Progress::Awaiting(HeadScan::new()),
             body: Chunks::new(),
             output: Chunks::new(),
             file: None,
@@ -110,7 +111,7 @@ impl Conn {
         ensures { result ≡ is_read_at self.now.held.stage }
     {
         match &self.progress {
-            Progress::Awaiting
+            Progress::Awaiting(_)
             | Progress::Heading(_)
             | Progress::Taking(_, _)
             | Progress::Whole(_) => true,
@@ -128,7 +129,12 @@ impl Conn {
         ensures filled { store.new.filled ≤ store.old.filled + length bytes.now }
         ensures kept { Kept store.old self.old.numbers store.new self.new.numbers }
     {
-        self.input.push_bytes(store, bytes)
+        self.input.push_bytes(store, bytes)?;
+        let Progress::Awaiting(scan) = &self.progress else {
+            return Ok(());
+        };
+        self.progress = Progress::Awaiting(scan.see(bytes));
+        Ok(())
     }
 
     /// The client sends nothing more.
@@ -172,7 +178,7 @@ impl Conn {
     {
         match &self.progress {
             Progress::Taking(_, body) => self.input.len() > 0 || body.is_over(),
-            Progress::Awaiting
+            Progress::Awaiting(_)
             | Progress::Heading(_)
             | Progress::Whole(_)
             | Progress::Refused(_)
@@ -197,7 +203,9 @@ impl Conn {
             return Ok(());
         };
         let answer = body.feed(store, &mut self.input, &mut self.body);
-        self.progress = replace(&mut self.progress, Progress::Awaiting).after(answer);
+        self.progress = replace(&mut self.progress, Progress::Awaiting(HeadScan::new())).after(
+            answer,
+        );
         with_memory(answer)
     }
 
@@ -206,7 +214,7 @@ impl Conn {
         ensures { result ≡ next_number self.now.held }
     {
         match &self.progress {
-            Progress::Awaiting => Some(self.number),
+            Progress::Awaiting(_) => Some(self.number),
             Progress::Answering(false) if self.output.len() == 0 => Some(self.number + 1),
             Progress::Heading(_)
             | Progress::Taking(_, _)
@@ -226,7 +234,7 @@ impl Conn {
             Progress::Whole(_) => return Stage::Whole,
             Progress::Refused(status) => return Stage::Refused(*status),
             Progress::Declined(status, _) => return Stage::Refused(*status),
-            Progress::Awaiting | Progress::Taking(_, _) => self.ended,
+            Progress::Awaiting(_) | Progress::Taking(_, _) => self.ended,
             Progress::Answering(last) => *last,
         };
         if self.output.len() > 0 {
@@ -235,6 +243,21 @@ impl Conn {
             Stage::Finished
         } else {
             Stage::Waiting
+        }
+    }
+
+    // What is known of all that came, where a head is looked for: what follows another request wasn't looked at.
+    fn scan(&self) -> HeadScan
+        ensures { IsScan self.now.held.input result }
+    {
+        match &self.progress {
+            Progress::Awaiting(scan) => *scan,
+            Progress::Heading(_)
+            | Progress::Taking(_, _)
+            | Progress::Whole(_)
+            | Progress::Refused(_)
+            | Progress::Declined(_, _)
+            | Progress::Answering(_) => scanned(&self.input),
         }
     }
 
@@ -248,10 +271,11 @@ impl Conn {
         ensures filled { store.new.filled + length self.new.held.input ≤ store.old.filled + length self.old.held.input }
         ensures kept { Kept store.old self.old.numbers store.new self.new.numbers }
     {
-        let found = look(self.alloc, &self.input)?;
+        let scan = self.scan();
+        let found = look(self.alloc, &self.input, scan.end())?;
         skip(&mut self.input, store, found.taken());
         self.number = number;
-        self.progress = found.progress();
+        self.progress = found.progress(scan);
         Ok(self.standing())
     }
 
@@ -270,7 +294,9 @@ impl Conn {
         };
         let told = continue_bytes(request, limit);
         self.output.push_bytes(store, told)?;
-        self.progress = replace(&mut self.progress, Progress::Awaiting).accepted(limit);
+        self.progress = replace(&mut self.progress, Progress::Awaiting(HeadScan::new())).accepted(
+            limit,
+        );
         Ok(())
     }
 
@@ -296,7 +322,7 @@ impl Conn {
             | Progress::Taking(request, _)
             | Progress::Whole(request)
             | Progress::Declined(_, request) => Some(request),
-            Progress::Awaiting | Progress::Refused(_) | Progress::Answering(_) => None,
+            Progress::Awaiting(_) | Progress::Refused(_) | Progress::Answering(_) => None,
         }
     }
 

@@ -1,17 +1,19 @@
 //! Looking for a head at the front of what came.
-ghost use Rattle.std.specs.Prelude.{◌≡◌, ◌≤◌, length, drop, true, IfOk};
+ghost use Rattle.std.specs.Prelude.{◌≡◌, ◌≤◌, length, take, drop, true, IfOk};
 ghost use Rattle.buffer_pool.specs.Kept.{Kept, HeldWithin};
 ghost use Rattle.chunkqueue.specs.Items.{items_of, count_of, memory_front};
+ghost use Rattle.http_head.specs.declared.limits.TheConstants.{HEAD_LIMIT};
 ghost use Rattle.http_head.specs.Ends.{head_end, IsWithin};
+ghost use Rattle.http_head.specs.Scan.{IsScan};
 ghost use Rattle.http_head.specs.Head.{head_of};
 ghost use Rattle.server_model.specs.Request.{status_of};
 ghost use Rattle.server_model.specs.Reply.{is_accepted, continue_bytes};
 ghost use Rattle.server_model.specs.Steps.{is_in_memory};
-ghost use Rattle.connection.specs.Looking.{looked_by, looked_of, taken_in, progress_of, IsLooked};
+ghost use Rattle.connection.specs.Looking.{looked_by, taken_in, progress_of, IsLooked};
 
 use crate::progress::Progress;
 use chunkqueue::{Chunks, Queue, Store};
-use http_head::{Framing, HEAD_LIMIT, HeadEnd, HeadRefusal, Request, head_end, read_head};
+use http_head::{Framing, HEAD_LIMIT, HeadEnd, HeadRefusal, HeadScan, Request, read_head};
 use lt_bytes::NoMemory;
 use std::alloc::Global;
 
@@ -38,11 +40,11 @@ impl Looked {
     }
 
     /// How far the request is then.
-    pub(crate) fn progress(self) -> Progress
-        ensures { result ≡ progress_of self }
+    pub(crate) fn progress(self, scan: HeadScan) -> Progress
+        ensures { result ≡ progress_of self scan }
     {
         match self {
-            Looked::Unfinished => Progress::Awaiting,
+            Looked::Unfinished => Progress::Awaiting(scan),
             Looked::Refused(status) => Progress::Refused(status),
             Looked::Headed(request, _) => Progress::Heading(request),
         }
@@ -96,37 +98,58 @@ fn judged(alloc: Global, head: &[u8]) -> Result<Looked, NoMemory>
     }
 }
 
-/// What the bytes begin with.
-fn found(alloc: Global, bytes: &[u8]) -> Result<Looked, NoMemory>
-    ensures found { IfOk result (λ found. found ≡ looked_of bytes.now) }
-    ensures within { IsWithin (length bytes.now) (head_end bytes.now) }
+/// What was seen of all that came.
+pub(crate) fn scanned(input: &Chunks) -> HeadScan
+    requires memory { is_in_memory (items_of input.now) ≡ true }
+    ensures scan { IsScan (memory_front (items_of input.now)) result }
 {
-    match head_end(bytes) {
-        HeadEnd::NotYet => Ok(Looked::Unfinished),
-        HeadEnd::TooLarge => Ok(Looked::Refused(431)),
-        HeadEnd::At(n) => judged(alloc, &bytes[..n]),
+    let front = input.front_bytes();
+    let scan = HeadScan::new().see(front);
+    if front.len() as u64 == input.len() {
+        return scan;
+    }
+    match scan.end() {
+        HeadEnd::At(_) => scan,
+        HeadEnd::NotYet | HeadEnd::TooLarge => scanned_behind(input),
     }
 }
 
-/// The same of what doesn't stand in one chunk.
-fn gathered(alloc: Global, input: &Chunks) -> Result<Looked, NoMemory>
-    ensures looked { IfOk result (IsLooked (memory_front (items_of input.now))) }
+// The same where the head stands in several chunks.
+fn scanned_behind(input: &Chunks) -> HeadScan
+    ensures scan { IsScan (memory_front (items_of input.now)) result }
 {
     let mut bytes = [0; HEAD_LIMIT];
     let count = input.peek(&mut bytes);
-    found(alloc, &bytes[..count])
+    HeadScan::new().see(&bytes[..count])
 }
 
-/// Looks at what came, and takes nothing of it. Mostly the first chunk has the head, and nothing is copied.
-pub(crate) fn look(alloc: Global, input: &Chunks) -> Result<Looked, NoMemory>
+// What a head of so many bytes asks for. Mostly the first chunk has it, and nothing is copied.
+fn headed(alloc: Global, input: &Chunks, n: usize) -> Result<Looked, NoMemory>
     requires memory { is_in_memory (items_of input.now) ≡ true }
-    ensures looked { IfOk result (IsLooked (memory_front (items_of input.now))) }
+    requires within { n ≤ length (memory_front (items_of input.now)) }
+    requires most { n ≤ HEAD_LIMIT }
+    ensures found { IfOk result (λ found. found ≡ looked_by n (head_of (take n (memory_front (items_of input.now))))) }
 {
     let front = input.front_bytes();
-    match head_end(front) {
-        HeadEnd::At(n) => judged(alloc, &front[..n]),
-        HeadEnd::NotYet if front.len() as u64 == input.len() => Ok(Looked::Unfinished),
-        HeadEnd::NotYet | HeadEnd::TooLarge => gathered(alloc, input),
+    if n <= front.len() {
+        return judged(alloc, &front[..n]);
+    }
+    let mut bytes = [0; HEAD_LIMIT];
+    input.peek(&mut bytes);
+    judged(alloc, &bytes[..n])
+}
+
+/// What the head says that ends there, of what came. Nothing of it is taken.
+pub(crate) fn look(alloc: Global, input: &Chunks, end: HeadEnd) -> Result<Looked, NoMemory>
+    requires memory { is_in_memory (items_of input.now) ≡ true }
+    requires end { end ≡ head_end (memory_front (items_of input.now)) }
+    requires within { IsWithin (length (memory_front (items_of input.now))) end }
+    ensures looked { IfOk result (IsLooked (memory_front (items_of input.now))) }
+{
+    match end {
+        HeadEnd::NotYet => Ok(Looked::Unfinished),
+        HeadEnd::TooLarge => Ok(Looked::Refused(431)),
+        HeadEnd::At(n) => headed(alloc, input, n),
     }
 }
 

@@ -2,15 +2,15 @@
 ghost use Rattle.std.specs.Prelude.{◌≡◌, true, OnOk};
 ghost use Rattle.connection.specs.Progress.{progress_accepted, progress_after, has_memory};
 
-use http_head::Request;
+use http_head::{HeadScan, Request};
 use lt_bytes::NoMemory;
 use lt_http_body::{Body, BodyRefusal, BodyState};
 
 /// How far the current request is. Requests are answered one at a time.
 #[derive(Drop)]
 pub(crate) enum Progress {
-    /// Its head isn't whole yet.
-    Awaiting,
+    /// Its head isn't whole yet, as far as it was looked at.
+    Awaiting(HeadScan),
     /// Its head was read, and the limit of its body isn't known yet.
     Heading(Request),
     /// Its body is read.

@@ -2,7 +2,7 @@ use Rattle.std.proofs.Common.{◌≡◌, map, ap, sym, subst, ◌∙◌}
 use Rattle.chunkqueue.specs.Items.{Byte}
 use Rattle.lt_http_body.specs.Standings.{begin}
 use Rattle.connection.specs.Connection.{Connected}
-use Rattle.connection.specs.Inside.{IsAt, IsContentAt}
+use Rattle.connection.specs.Inside.{IsAt, IsContentAt, IsSeen}
 use Rattle.connection.specs.Progress.{progress_accepted}
 use Rattle.connection.specs.declared.progress.Progress.{Progress}
 use Rattle.connection.specs.declared.progress.Progress.TheVariants as progress
@@ -19,6 +19,7 @@ invariant_of-self-2 c =
     record {
       memory = c.self.invariant.memory;
       within = c.self.invariant.within;
+      seen = subst (λ (p : Progress). IsSeen p c.self.inside.input) (sym now) tt;
       staged = staged_fits c.self.inside.output c.push_bytes.new.self (map Byte c.continue_bytes-told.result.now) c.push_bytes.ensures.staged c.in_ok-push_bytes.ensures.ok c.self.invariant.staged;
       rests = subst (λ (p : Progress). IsAt c.self.inside.number p c.push_bytes.new.self c.self.inside.file) (sym now)
           (accept_rests c.self.inside.number c.self.inside.progress head c.args.limit (begin head.framing c.args.limit) c.self.inside.output c.push_bytes.new.self c.self.inside.file c.continue_bytes-told.result.now is

@@ -17,6 +17,7 @@ invariant_of-self-2 c =
     record {
       memory = c.self.invariant.memory;
       within = c.self.invariant.within;
+      seen = tt;
       staged = omega (arith, ap (λ (l : List ℕ). length l) r.staged, r.more, c.self.invariant.staged);
       rests = (
         (λ gone. absurd (not_none c.append_all.new.self r.some gone)),

@@ -1,13 +1,13 @@
 use Rattle.std.proofs.Common.{◌≡◌, ◌<◌, ◌-◌, ◌^◌, true, refl, ap, sym, subst, ◌∙◌, arith}
 use Rattle.chunkqueue.specs.Items.{items_of, count_of, memory_front}
 use Rattle.connection.specs.Connection.{Connected}
-use Rattle.connection.specs.Inside.{connected_of, stage_by, IsAt, IsContentAt}
+use Rattle.connection.specs.Inside.{connected_of, stage_by, IsAt, IsContentAt, IsSeen}
 use Rattle.connection.specs.Progress.{progress_after, has_memory}
 use Rattle.connection.specs.declared.progress.Progress.{Progress}
 use Rattle.connection.specs.declared.progress.Progress.TheVariants as progress
 use Rattle.connection.proofs.Buffers.{fed_kept}
 use Rattle.connection.proofs.Memory.{fills_less}
-use Rattle.connection.proofs.Feeding.{all_in, if_ok, fed_held, fed_rests, fed_empty, fed_queues}
+use Rattle.connection.proofs.Feeding.{all_in, if_ok, fed_held, fed_rests, fed_empty, fed_seen, fed_queues}
 use Rattle.connection.proofs.connection.Conn.feed.Goals as goal
 
 pub feed-answer-requires-clause-memory : goal.feed-answer-requires-clause-memory
@@ -26,6 +26,7 @@ invariant_of-self-2 c =
     record {
       memory = q.memory;
       within = q.within;
+      seen = subst (λ (p : Progress). IsSeen p c.feed-answer.new.input) (sym now) (fed_seen head s c.feed-answer.result c.feed-answer.new.input);
       staged = c.self.invariant.staged;
       rests = subst (λ (p : Progress). IsAt c.self.inside.number p c.self.inside.output c.self.inside.file) (sym now)
           (fed_rests c.self.inside.number head c.in-Taking.body s c.feed-answer.result c.self.inside.output c.self.inside.file

@@ -8,6 +8,7 @@ pub invariant_of-self : goal.invariant_of-self
 invariant_of-self g c = record {
   memory = c.self.invariant.memory;
   within = c.self.invariant.within;
+  seen = c.self.invariant.seen;
   staged = staged_within c.stage.result c.self.inside.output c.stage.new.self c.stage.ensures.items c.stage.ensures.staged c.stage.ensures.err c.self.invariant.staged;
   rests = rests_same c.self.inside.number c.self.inside.progress c.self.inside.output c.stage.new.self c.self.inside.file c.stage.ensures.items c.self.invariant.rests;
   content = c.self.invariant.content;
