@@ -12,5 +12,5 @@ filled_on k n start old next rest bytes fits there front more =
     let long : length (take k old) ≡ k = omega (arith, length-take k old, fits) in
     let first : take k whole ≡ take k (drop start bytes) = take_at (take k old) (next ++ rest) k long ∙ front in
     let second : take n (drop k whole) ≡ take n (drop k (drop start bytes)) =
-        ap (take n) (drop_at (take k old) (next ++ rest) k long) ∙ take-append-le n next rest there ∙ more ∙ ap (take n) (sym (drop-drop k start bytes)) in
+    ap (take n) (drop_at (take k old) (next ++ rest) k long) ∙ take-append-le n next rest there ∙ more ∙ ap (take n) (sym (drop-drop k start bytes)) in
     take-add k n whole ∙ ap (λ l. l ++ take n (drop k whole)) first ∙ ap (λ l. take k (drop start bytes) ++ l) second ∙ sym (take-add k n (drop start bytes))
