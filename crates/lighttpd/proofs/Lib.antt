@@ -3,3 +3,5 @@ mod RootLemmas
 mod WordsLemmas
 mod RunLemmas
 mod CalmLemmas
+mod AskingLemmas
+mod ServingLemmas

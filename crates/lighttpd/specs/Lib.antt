@@ -1,9 +1,11 @@
 pub mod Calls
 pub mod Endings
 pub mod Exits
+pub mod Fetching
 pub mod Offline
 pub mod Printing
 pub mod Reading
 pub mod Root
 pub mod Runs
+pub mod Serving
 pub mod Words

@@ -51,6 +51,15 @@ abbrev pub LineSays : Status → Line → Library → Type 0
 LineSays status (Replay conf script) held = ReplaySays status (held conf) (held script)
 LineSays status (Print conf) held = PrintSays status (held conf)
 
+-- a call that ends so never asked its net and its files for anything
+abbrev pub IsRefusal : Status → Type 0
+IsRefusal (status.Conf fault) = Unit {0}
+IsRefusal status.Usage = Unit {0}
+IsRefusal (status.Script line) = Unit {0}
+IsRefusal status.TextFault = Unit {0}
+IsRefusal (status.Missing number) = Unit {0}
+IsRefusal other = ⊥
+
 -- where words and texts are good, a call is done, unless something fails or memory is wanted
 abbrev pub IsComplete : Status → Type 0
 IsComplete status.Done = Unit {0}

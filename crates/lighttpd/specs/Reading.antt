@@ -1,6 +1,9 @@
 -- What reading the named texts may answer: what they spell, or the first refusal.
-use Rattle.std.specs.Prelude.{◌≡◌, ℕ, ◌<◌, ◌≤◌, ◌⊎◌, List, length, Option, Some, None, Result, Ok, Err}
+use Rattle.std.specs.Prelude.{◌≡◌, ℕ, ◌<◌, ◌≤◌, ◌⊎◌, List, ◌∷◌, length, Option, Some, None, Result, Ok, Err}
 use Rattle.lt_world.specs.Causes.{Rose}
+use Rattle.lt_world.specs.declared.texts.Fetch.{Fetch}
+use Rattle.lt_world.specs.declared.texts.FetchKind.{FetchKind}
+use Rattle.lt_world.specs.declared.texts.FetchKind.TheVariants as fetch
 use Rattle.lt_script.specs.declared.script.Script.{Script}
 use Rattle.lt_script.specs.declared.script.TheConstants.{MOST_BYTES}
 use Rattle.lt_script.specs.Texts.{Spells, IsBadLine}
@@ -42,6 +45,19 @@ ReadCause (Err status.Done) before after = ⊥
 ReadCause (Err status.Usage) before after = ⊥
 ReadCause (Err status.SinkFault) before after = ⊥
 ReadCause other before after = Unit {0}
+
+-- one call for a text of this name, with this answer, was made
+abbrev pub AsksFor : List ℕ → FetchKind → List Fetch → List Fetch → Type 0
+AsksFor name answer before after = after ≡ record { name = name; answer = answer } ∷ before
+
+-- reading a text makes one call for its name, whose answer is the cause of a refusal; a call that itself wanted memory
+-- is not kept
+abbrev pub Asks : {A : Type 0} → Result A Status → List ℕ → List Fetch → List Fetch → Type 0
+Asks (Ok value) name before after = AsksFor name fetch.Text before after
+Asks (Err (status.Missing number)) name before after = AsksFor name fetch.Missing before after
+Asks (Err status.TextFault) name before after = AsksFor name fetch.Failed before after
+Asks (Err status.NoMemory) name before after = (after ≡ before) ⊎ AsksFor name fetch.Text before after
+Asks (Err other) name before after = AsksFor name fetch.Text before after ⊎ AsksFor name fetch.Long before after
 
 -- this value is the answer, unless the text cannot be read or memory is wanted
 abbrev pub IsOnly : {A : Type 0} → A → Result A Status → Type 0

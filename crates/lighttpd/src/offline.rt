@@ -1,4 +1,4 @@
-// The work that needs no sockets: a replay, and the printed configuration.
+//! The work that needs no sockets: a replay, and the printed configuration.
 ghost use Rattle.std.specs.Prelude.{◌≡◌, ◌≤◌, ◌++◌, ℕ, List, [], None, map, string_bytes};
 ghost use Rattle.lt_world.specs.Disk.{Disk};
 ghost use Rattle.lt_world.specs.Memory.{no_files, tree_of};
@@ -22,7 +22,9 @@ ghost use Rattle.lighttpd.specs.Endings.{AllEndCalmly};
 ghost use Rattle.lighttpd.specs.Words.{Line, SpellsLine, Replay as replay_line, Print as print_line};
 ghost use Rattle.lighttpd.specs.Reading.{HasRoot, HasScript};
 ghost use Rattle.lighttpd.specs.Printing.{HasTree};
-ghost use Rattle.lighttpd.specs.Offline.{WordsSay, IsOfLine, IsComplete, LineSays, ReplaySays, PrintSays, SinkSays, FaultsSay, MemorySays, PlaySays};
+ghost use Rattle.lighttpd.specs.Offline.{WordsSay, IsOfLine, IsRefusal, IsComplete, LineSays, ReplaySays, PrintSays, SinkSays, FaultsSay, MemorySays, PlaySays};
+ghost use Rattle.lighttpd.specs.Fetching.{LineAsks, ReplayAsks, PrintAsks};
+ghost use Rattle.lighttpd.specs.Serving.{ServesBy, ServesSome};
 
 use crate::printing::read_tree;
 use crate::reading::{read_conf, read_script};
@@ -52,6 +54,7 @@ pub fn offline<X: Texts, S: Sink>(
 
     ensures words { WordsSay result (map string_bytes words.now) }
     ensures texts { X.tells → (line : Line) → SpellsLine (map string_bytes words.now) line → LineSays result line (X.texts texts.old) }
+    ensures asks { X.tells → (line : Line) → SpellsLine (map string_bytes words.now) line → LineAsks result line (X.texts texts.old) (X.calls texts.old) (X.calls texts.new) }
     ensures faults { FaultsSay result (X.faults texts.old) (X.faults texts.new) (S.faults sink.old) (S.faults sink.new) }
     ensures memory { MemorySays result net.new.last }
 
@@ -61,20 +64,19 @@ pub fn offline<X: Texts, S: Sink>(
     ensures complete_print { X.tells → (conf : List ℕ) (tree : Tree) → SpellsLine (map string_bytes words.now) (print_line conf)
         → HasTree (X.texts texts.old conf) tree → IsComplete result }
 
-    // Whatever the clients sent and the sockets took, each client took a prefix of its own stream, and all of it where
-    // it was closed clean; and what was due for each event followed it in the same turn.
-    ensures serves { X.tells → (conf script root : List ℕ) (said : Script) → SpellsLine (map string_bytes words.now) (replay_line conf script)
+    // Whatever the texts tell, the clients sent and the sockets took: there is a configuration for which each client took
+    // a prefix of its own stream, and all of it where it was closed clean; and what was due for each event followed it
+    // in the same turn. Where the texts tell, it is the one that they spell.
+    ensures serves { ServesSome result files.new.calls net.new.game.trace }
+    ensures spelled { X.tells → (conf script root : List ℕ) (said : Script) → SpellsLine (map string_bytes words.now) (replay_line conf script)
         → HasRoot (X.texts texts.old conf) root → HasScript (X.texts texts.old script) said
-        → Served (site_at root) (planted said.files (tree_of no_files)) files.new.calls net.new.game.trace }
+        → ServesBy root said result files.new.calls net.new.game.trace }
 
-    // Where no line makes a read or a write fail, each client that was closed was closed clean, as one too many or for
-    // want of memory.
-    ensures calm { X.tells → (conf script : List ℕ) (said : Script) → SpellsLine (map string_bytes words.now) (replay_line conf script)
-        → HasScript (X.texts texts.old script) said → IsCalm said.steps → AllEndCalmly net.new.game.trace }
+    // A call that is refused, and one that prints, asked neither the net nor the files for anything.
+    ensures refused { IsRefusal result → (net.new ≡ net.old) × (files.new ≡ files.old) }
+    ensures unasked { (conf : List ℕ) → SpellsLine (map string_bytes words.now) (print_line conf) → (net.new ≡ net.old) × (files.new ≡ files.old) }
 
-    // A replay plays the whole script, and reports what the net told.
-    ensures plays { X.tells → (conf script : List ℕ) (said : Script) → SpellsLine (map string_bytes words.now) (replay_line conf script)
-        → HasScript (X.texts texts.old script) said → result ≡ Status.Done → Plays said.steps net.new.game.trace [] }
+    // A replay reports what the net told.
     ensures report { S.tells → (conf script : List ℕ) → SpellsLine (map string_bytes words.now) (replay_line conf script)
         → SinkSays result (report_of net.new.game.trace) (S.bytes sink.old) (S.bytes sink.new) }
 
@@ -106,13 +108,14 @@ fn replay<X: Texts, S: Sink>(
     requires files { files.old ≡ no_files }
     ensures line { IsOfLine result }
     ensures texts { X.tells → ReplaySays result (X.texts texts.old conf.now) (X.texts texts.old script.now) }
+    ensures asks { X.tells → ReplayAsks result conf.now script.now (X.texts texts.old) (X.calls texts.old) (X.calls texts.new) }
     ensures faults { FaultsSay result (X.faults texts.old) (X.faults texts.new) (S.faults sink.old) (S.faults sink.new) }
     ensures memory { MemorySays result net.new.last }
     ensures complete { X.tells → (root : List ℕ) (said : Script) → HasRoot (X.texts texts.old conf.now) root → HasScript (X.texts texts.old script.now) said → IsComplete result }
-    ensures serves { X.tells → (root : List ℕ) (said : Script) → HasRoot (X.texts texts.old conf.now) root → HasScript (X.texts texts.old script.now) said
-        → Served (site_at root) (planted said.files (tree_of no_files)) files.new.calls net.new.game.trace }
-    ensures calm { X.tells → (said : Script) → HasScript (X.texts texts.old script.now) said → IsCalm said.steps → AllEndCalmly net.new.game.trace }
-    ensures plays { X.tells → (said : Script) → HasScript (X.texts texts.old script.now) said → result ≡ Status.Done → Plays said.steps net.new.game.trace [] }
+    ensures serves { ServesSome result files.new.calls net.new.game.trace }
+    ensures spelled { X.tells → (root : List ℕ) (said : Script) → HasRoot (X.texts texts.old conf.now) root → HasScript (X.texts texts.old script.now) said
+        → ServesBy root said result files.new.calls net.new.game.trace }
+    ensures refused { IsRefusal result → (net.new ≡ net.old) × (files.new ≡ files.old) }
     ensures report { S.tells → SinkSays result (report_of net.new.game.trace) (S.bytes sink.old) (S.bytes sink.new) }
 {
     let root = match read_conf(alloc, texts, conf) {
@@ -176,6 +179,7 @@ fn serve(server: Server, net: &mut ScriptNet, files: &mut MemFiles) -> Finish
 fn print_conf<X: Texts, S: Sink>(alloc: Global, conf: &str, texts: &mut X, sink: &mut S) -> Status
     ensures line { IsOfLine result }
     ensures texts { X.tells → PrintSays result (X.texts texts.old conf.now) }
+    ensures asks { X.tells → PrintAsks result conf.now (X.calls texts.old) (X.calls texts.new) }
     ensures faults { FaultsSay result (X.faults texts.old) (X.faults texts.new) (S.faults sink.old) (S.faults sink.new) }
     ensures complete { X.tells → (tree : Tree) → HasTree (X.texts texts.old conf.now) tree → IsComplete result }
     ensures prints { S.tells → X.tells → (tree : Tree) → HasTree (X.texts texts.old conf.now) tree → SinkSays result (printed tree) (S.bytes sink.old) (S.bytes sink.new) }

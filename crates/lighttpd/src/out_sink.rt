@@ -1,25 +1,31 @@
-// Standard output as a sink.
-ghost use Rattle.std.specs.Prelude.{◌≡◌, []};
-
+//! Standard output as a sink.
 use lt_world::{Fault, Sink};
+use std::io::{Printer, Write, writer};
 
-/// Standard output, over the runtime `R`. It tells nothing of what was taken.
+/// A writer as a sink. It keeps nothing back: each piece is offered once, as it comes.
 #[derive(Drop)]
-pub struct OutSink<R> {
-    rt: R,
+pub struct OutSink<W> {
+    out: W,
     faults: u64,
 }
 
-impl<R> OutSink<R> {
-    pub fn new(rt: R) -> OutSink<R> {
-        OutSink { rt, faults: 0 }
+impl<'a, R: Print> OutSink<Printer<'a, R>> {
+    /// Standard output, over the runtime.
+    pub fn new(rt: &'a R) -> OutSink<Printer<'a, R>> {
+        OutSink {
+            out: writer(rt),
+            faults: 0,
+        }
     }
 }
 
-impl<R: Print> Sink for OutSink<R> {
-    ghost tells = { ⊥ };
+impl<W: Write> Sink for OutSink<W> {
+    ghost use Rattle.std.specs.Prelude.{[], IsSome, unwrap_or};
 
-    ghost bytes = { λ _. [] };
+    // What a writer is known to hold is what the sink took. Of standard output nothing is known.
+    ghost tells = { (out : W) → IsSome (W.contents out) };
+
+    ghost bytes = { λ sink. unwrap_or (W.contents sink.out) [] };
 
     ghost faults = { λ sink. sink.faults };
 
@@ -30,7 +36,7 @@ impl<R: Print> Sink for OutSink<R> {
     ghost later_later = { λ _ _ _ _ _. tt };
 
     fn write(&mut self, piece: &[u8]) -> Result<usize, Fault> {
-        match self.rt.write_some(piece) {
+        match self.out.write(piece) {
             Ok(n) if n > 0 || piece.is_empty() => Ok(n),
             // An output that takes nothing will take nothing later.
             _ => {

@@ -1,7 +1,7 @@
-// The configuration as a tree, for printing.
+//! The configuration as a tree, for printing.
 ghost use Rattle.std.specs.Prelude.{◌≡◌, ◌≤◌, length};
 ghost use Rattle.lighttpd.specs.Printing.{TextSays, TreeSays, SpellsTree, HasTree};
-ghost use Rattle.lighttpd.specs.Reading.{ReadCause, IsOnly};
+ghost use Rattle.lighttpd.specs.Reading.{ReadCause, Asks, IsOnly};
 ghost use Rattle.conf_parse.specs.declared.tree.Tree.{Tree};
 
 use crate::reading::{CONF, MAX_CONF};
@@ -15,6 +15,7 @@ use std::alloc::Global;
 pub fn read_tree<X: Texts>(alloc: Global, texts: &mut X, name: &str) -> Result<Tree, Status>
     ensures says { X.tells → TreeSays result (X.texts texts.old name.now) }
     ensures only { X.tells → (tree : Tree) → HasTree (X.texts texts.old name.now) tree → IsOnly tree result }
+    ensures asks { X.tells → Asks result name.now (X.calls texts.old) (X.calls texts.new) }
     ensures cause { ReadCause result (X.faults texts.old) (X.faults texts.new) }
     ensures texts { X.tells → X.texts texts.new ≡ X.texts texts.old }
     ensures faults { X.faults texts.old ≤ X.faults texts.new }

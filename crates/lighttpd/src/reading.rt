@@ -1,6 +1,6 @@
-// The named texts, and what they spell.
+//! The named texts, and what they spell.
 ghost use Rattle.std.specs.Prelude.{◌≡◌, ◌≤◌, ℕ, List, MatchResult, IfOk};
-ghost use Rattle.lighttpd.specs.Reading.{ConfSays, ScriptSays, ReadCause, IsOnly, HasRoot, HasScript};
+ghost use Rattle.lighttpd.specs.Reading.{ConfSays, ScriptSays, ReadCause, Asks, IsOnly, HasRoot, HasScript};
 ghost use Rattle.lt_script.specs.Texts.{Spells};
 ghost use Rattle.lt_script.specs.declared.script.Script.{Script};
 
@@ -33,6 +33,7 @@ const TOO_LONG: Status = Status::Script { line: 0 };
 pub fn read_conf<X: Texts>(alloc: Global, texts: &mut X, name: &str) -> Result<Text, Status>
     ensures says { X.tells → ConfSays result (X.texts texts.old name.now) }
     ensures only { X.tells → (root : List ℕ) → HasRoot (X.texts texts.old name.now) root → IsOnly root result }
+    ensures asks { X.tells → Asks result name.now (X.calls texts.old) (X.calls texts.new) }
     ensures cause { ReadCause result (X.faults texts.old) (X.faults texts.new) }
     ensures texts { X.tells → X.texts texts.new ≡ X.texts texts.old }
     ensures faults { X.faults texts.old ≤ X.faults texts.new }
@@ -63,6 +64,7 @@ pub fn read_script<X: Texts>(alloc: Global, texts: &mut X, name: &str) -> Result
     ensures says { X.tells → ScriptSays result (X.texts texts.old name.now) }
     ensures spelled { IfOk result (λ script. (bytes : List ℕ) × Spells bytes script) }
     ensures only { X.tells → (said : Script) → HasScript (X.texts texts.old name.now) said → IsOnly said result }
+    ensures asks { X.tells → Asks result name.now (X.calls texts.old) (X.calls texts.new) }
     ensures cause { ReadCause result (X.faults texts.old) (X.faults texts.new) }
     ensures texts { X.tells → X.texts texts.new ≡ X.texts texts.old }
     ensures faults { X.faults texts.old ≤ X.faults texts.new }

@@ -1,4 +1,4 @@
-// The document root, out of a configuration that is one assignment.
+//! The document root, out of a configuration that is one assignment.
 ghost use Rattle.std.specs.Prelude.{◌≡◌, ◌≢◌, ◌<◌, ℕ, List, [], ◌∷◌, ◌++◌, ◌↔◌, IsTrue, IfSome, IfNone, All};
 ghost use Rattle.lighttpd.specs.Root.{AssignsRoot, IsPathByte, IsPath, assignment, without_final};
 

@@ -1,4 +1,4 @@
-// Turns of the server until no event is left.
+//! Turns of the server until no event is left.
 ghost use Rattle.std.specs.Prelude.{◌≡◌, ◌≤◌};
 ghost use Rattle.server_model.specs.Files.{IsTable, Backs};
 ghost use Rattle.server_model.specs.Serves.{Serves};

@@ -1,6 +1,6 @@
-// How a call of the program ends: its status, the exit number, and the text on standard error.
-ghost use Rattle.std.specs.Prelude.{◌≡◌};
-ghost use Rattle.lighttpd.specs.Exits.{exit_number};
+//! How a call of the program ends: its status, the exit number, and the text on standard error.
+ghost use Rattle.std.specs.Prelude.{◌≡◌, Some};
+ghost use Rattle.lighttpd.specs.Exits.{exit_number, kind_number, status_text};
 
 use std::fmt;
 
@@ -74,13 +74,23 @@ impl Status {
     }
 }
 
+impl ConfKind {
+    pub fn number(self) -> u8
+        ensures { result ≡ kind_number self }
+    {
+        self as u8
+    }
+}
+
 /// The text on standard error; it is empty at `Done`.
 impl fmt::Display for Status {
+    ghost output = { λ status. Some (status_text status) };
+
     fn fmt<W: fmt::Write>(&self, f: &mut fmt::Formatter<W>) -> fmt::Result {
         match self {
             Status::Done => Ok(()),
             Status::Conf(fault) => {
-                let kind = fault.kind as u8;
+                let kind = fault.kind.number();
                 let file = fault.file;
                 let line = fault.line;
                 write!(f, "lighttpd: C{kind} file {file} line {line}")

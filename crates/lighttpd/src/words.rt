@@ -1,4 +1,4 @@
-// The words of a call.
+//! The words of a call.
 ghost use Rattle.std.specs.Prelude.{◌≡◌, ℕ, List, IfSome, IfNone, map, string_bytes};
 ghost use Rattle.lighttpd.specs.Words.{Line, SpellsLine, SpellsPrint, Replay as replay};
 ghost use Rattle.lighttpd.specs.Calls.{line_of};
