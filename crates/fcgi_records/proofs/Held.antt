@@ -38,15 +38,15 @@ held_framing bytes out tail extra b h = record {
   carries = append-nil out ∙ h.carries;
 }
 
-are_append : (pieces : List Piece) (piece : Piece) → ArePieces pieces → IsPiece piece → ArePieces (pieces ++ piece ∷ [])
+pub are_append : (pieces : List Piece) (piece : Piece) → ArePieces pieces → IsPiece piece → ArePieces (pieces ++ piece ∷ [])
 are_append [] piece are is = (is, tt)
 are_append (first ∷ pieces) piece are is = (are.0, are_append pieces piece are.1 is)
 
-print_append : (pieces : List Piece) (piece : Piece) (rest : List ℕ) → print_pieces (pieces ++ piece ∷ []) rest ≡ print_pieces pieces (print_piece piece rest)
+pub print_append : (pieces : List Piece) (piece : Piece) (rest : List ℕ) → print_pieces (pieces ++ piece ∷ []) rest ≡ print_pieces pieces (print_piece piece rest)
 print_append [] piece rest = refl
 print_append (first ∷ pieces) piece rest = ap (print_piece first) (print_append pieces piece rest)
 
-stdout_append : (pieces : List Piece) (piece : Piece) → stdout_of (pieces ++ piece ∷ []) ≡ stdout_of pieces ++ content_of piece.source piece.content
+pub stdout_append : (pieces : List Piece) (piece : Piece) → stdout_of (pieces ++ piece ∷ []) ≡ stdout_of pieces ++ content_of piece.source piece.content
 stdout_append [] piece = append-nil (content_of piece.source piece.content)
 stdout_append (first ∷ pieces) piece =
     ap (λ (l : List ℕ). content_of first.source first.content ++ l) (stdout_append pieces piece) ∙ sym (append_assoc (content_of first.source first.content) (stdout_of pieces) (content_of piece.source piece.content))

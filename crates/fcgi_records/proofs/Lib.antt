@@ -1,4 +1,5 @@
 pub mod FeedingLemmas
+mod Going
 mod Held
 mod Moving
 mod Printed

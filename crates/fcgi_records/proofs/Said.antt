@@ -97,11 +97,11 @@ told_after (b ∷ bytes) s front out sound t =
         (subst (λ (n : ℕ). Told s (front ++ take n (b ∷ bytes)) (out ++ [])) (sym r.2)
         (subst (λ (l : List ℕ). Told s l (out ++ [])) (sym (append-nil front)) (subst (λ (l : List ℕ). Told s front l) (sym (append-nil out)) t))))
 
-told_all : (bytes : List ℕ) → Told (state_after state.Version bytes) (take (taken_in state.Version bytes) bytes) (stdout_in state.Version bytes)
+pub told_all : (bytes : List ℕ) → Told (state_after state.Version bytes) (take (taken_in state.Version bytes) bytes) (stdout_in state.Version bytes)
 told_all bytes = told_after bytes state.Version [] [] tt (record { tail = []; extra = []; held = held_nothing; tells = (refl, refl) })
 
 -- all bytes are read where nothing is refused
-own_all : (s : State) (bytes : List ℕ) → is_broken (state_after s bytes) ≡ false → taken_in s bytes ≡ length bytes
+pub own_all : (s : State) (bytes : List ℕ) → is_broken (state_after s bytes) ≡ false → taken_in s bytes ≡ length bytes
 unfolding state_after taken_in
 own_all s [] going = refl
 own_all s (b ∷ bytes) going = broken_cases s (cond (is_broken s) 0 1 + taken_in (step s b) bytes ≡ suc (length bytes))

@@ -36,3 +36,16 @@ joined (content ∷ contents) = content ++ joined contents
 -- END_REQUEST with both statuses 0
 abbrev pub served : List ℕ
 served = header_of 3 8 ++ (0 ∷ 0 ∷ 0 ∷ 0 ∷ 0 ∷ 0 ∷ 0 ∷ 0 ∷ [])
+
+-- some answer begins with the bytes, but for the first bytes of a header behind whole records; and what it carries begins with this
+pub record GoesOn (bytes stdout : List ℕ) : Type 0 where
+  pub front : List ℕ
+  pub part : List ℕ
+  pub cut : bytes ≡ front ++ part
+  pub few : length part < 8
+  pub more : List ℕ
+  pub later : List ℕ
+  pub answer : Answer
+  pub is : IsAnswer answer
+  pub spelled : front ++ more ≡ print answer
+  pub carries : stdout ++ later ≡ stdout_of answer.pieces

@@ -3,9 +3,9 @@ ghost use Rattle.std.specs.Prelude.{◌≡◌, ◌+◌, ◌++◌, ℕ, List, len
 ghost use Rattle.fcgi_records.specs.declared.state.Cause.{Cause};
 ghost use Rattle.fcgi_records.specs.declared.state.State.{State};
 ghost use Rattle.fcgi_records.specs.declared.state.State.TheVariants.{Version};
-ghost use Rattle.fcgi_records.specs.Reading.{state_after, stdout_in, taken_in, Done, Broken, said};
+ghost use Rattle.fcgi_records.specs.Reading.{state_after, stdout_in, taken_in, Open, Done, Broken, said};
 ghost use Rattle.fcgi_records.specs.Grammar.{Answer, IsAnswer, print, stdout_of};
-ghost use Rattle.fcgi_records.specs.Laws.{Spells, IsRefused, records_of, AreShort, joined, served};
+ghost use Rattle.fcgi_records.specs.Laws.{Spells, IsRefused, GoesOn, records_of, AreShort, joined, served};
 
 /// An answer that the grammar spells is read: the content of its records of STDOUT.
 pub fn what_is_spelled_is_read()
@@ -38,4 +38,10 @@ pub fn cuts_change_nothing()
     ensures stands { (s : State) (bytes more : List ℕ) → state_after s (bytes ++ more) ≡ state_after (state_after s bytes) more }
     ensures stdout { (s : State) (bytes more : List ℕ) → stdout_in s (bytes ++ more) ≡ stdout_in s bytes ++ stdout_in (state_after s bytes) more }
     ensures taken { (s : State) (bytes more : List ℕ) → taken_in s (bytes ++ more) ≡ taken_in s bytes + taken_in (state_after s bytes) more }
+{}
+
+/// Where the answer is open, some answer begins with the bytes: a header is judged once it is whole, and else a stream is
+/// refused at the first byte with which none goes on.
+pub fn what_is_open_goes_on()
+    ensures { (bytes stdout : List ℕ) → said bytes ≡ Open stdout → GoesOn bytes stdout }
 {}
