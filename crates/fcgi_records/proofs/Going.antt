@@ -1,12 +1,12 @@
 -- Bytes behind which the answer is open go on to a whole answer: what is still to come is filled with zeros.
-use Rattle.std.proofs.Common.{◌≡◌, ℕ, ◌+◌, ◌<◌, ◌≤◌, false, List, [], ◌∷◌, ◌++◌, length, take, replicate, refl, ap, sym, subst, ◌∙◌, append_assoc, append-nil, length-append, take_all, arith}
+use Rattle.std.proofs.Common.{◌≡◌, ℕ, ◌<◌, false, List, [], ◌∷◌, ◌++◌, length, take, replicate, refl, ap, sym, subst, ◌∙◌, append_assoc, append-nil, length-append, take_all, arith}
 use Rattle.std.proofs.lemmas.List.{length-replicate}
 use Rattle.fcgi_records.specs.declared.state.State.{State}
 use Rattle.fcgi_records.specs.declared.state.State.TheVariants as state
-use Rattle.fcgi_records.specs.States.{number, is_broken}
-use Rattle.fcgi_records.specs.Reading.{state_after, stdout_in, taken_in, Said, Open, said_at, said}
+use Rattle.fcgi_records.specs.States.{is_broken}
+use Rattle.fcgi_records.specs.Reading.{state_after, stdout_in, taken_in, Open, said_at, said}
 use Rattle.fcgi_records.specs.Grammar.{Source, Stdout, Stderr, kind_of, Piece, Ending, IsPiece, IsEnding, print_header, print_piece, print_pieces, print_ending, content_of, stdout_of}
-use Rattle.fcgi_records.specs.Laws.{GoesOn, served}
+use Rattle.fcgi_records.specs.Laws.{GoesOn}
 use Rattle.fcgi_records.proofs.Held.{Held, pieces_append, are_append, print_append, stdout_append}
 use Rattle.fcgi_records.proofs.Told.{InContent, InPadding, InStatus, InUnused, InEndPadding, Told}
 use Rattle.fcgi_records.proofs.Said.{told_all, own_all}

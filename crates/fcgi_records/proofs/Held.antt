@@ -1,6 +1,6 @@
 -- Whole records, and what stands behind them.
 use Rattle.std.proofs.Common.{◌≡◌, ℕ, List, [], ◌∷◌, ◌++◌, length, refl, ap, sym, ◌∙◌, append_assoc, append-nil}
-use Rattle.fcgi_records.specs.Grammar.{Source, Stdout, Stderr, kind_of, Piece, IsPiece, ArePieces, print_header, print_piece, print_pieces, content_of, stdout_of}
+use Rattle.fcgi_records.specs.Grammar.{kind_of, Piece, IsPiece, ArePieces, print_header, print_piece, print_pieces, content_of, stdout_of}
 
 -- the bytes are whole records and the tail, and what they carry is theirs and the extra
 pub record Held (bytes out tail extra : List ℕ) : Type 0 where

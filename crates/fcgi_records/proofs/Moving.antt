@@ -1,10 +1,10 @@
 -- From where a stream stands to where it stands behind the first bytes.
-use Rattle.std.proofs.Common.{◌≡◌, zero, suc, ℕ, ◌+◌, ◌-◌, ◌<◌, ◌≤◌, ◌==◌, Bool, true, false, cond, List, [], ◌∷◌, ◌++◌, length, take, drop, refl, ap, sym, subst, ◌∙◌, append_assoc, length-append, length-drop, arith}
+use Rattle.std.proofs.Common.{◌≡◌, suc, ℕ, ◌+◌, ◌-◌, ◌≤◌, Bool, true, cond, List, [], ◌∷◌, ◌++◌, length, drop, refl, ap, sym, subst, ◌∙◌, append_assoc, length-append, length-drop, arith}
 use Rattle.std.proofs.lemmas.List.{drop-drop}
 use Rattle.std.proofs.Math.Seq.{drop-append_seam, take-append_seam}
 use Rattle.fcgi_records.specs.declared.state.State.{State}
 use Rattle.fcgi_records.specs.declared.state.State.TheVariants as state
-use Rattle.fcgi_records.specs.States.{step, is_broken, is_framing, kept_from, in_padding, in_stdout, in_stderr, in_status, in_unused, in_end_padding}
+use Rattle.fcgi_records.specs.States.{step, is_framing, in_padding, in_stdout, in_stderr, in_status, in_unused, in_end_padding}
 use Rattle.fcgi_records.specs.Reading.{state_after, stdout_in, taken_in}
 use Rattle.fcgi_records.proofs.ReadingLemmas.{framing_keeps, framing_owns, one_is_some, Gives, gives}
 

@@ -1,14 +1,13 @@
 -- What the grammar prints is read as it says.
-use Rattle.std.proofs.Common.{◌≡◌, ◌≢◌, ℕ, ◌+◌, ◌*◌, ◌<◌, ◌≤◌, ◌==◌, true, false, cond, List, [], ◌∷◌, ◌++◌, length, refl, ap, sym, subst, ◌∙◌, append_assoc, append-nil, arith}
+use Rattle.std.proofs.Common.{◌≡◌, ◌≢◌, ℕ, ◌==◌, List, [], ◌∷◌, ◌++◌, length, refl, ap, sym, subst, ◌∙◌, append_assoc, append-nil}
 use Rattle.std.proofs.lemmas.Bool.{cond-true, cond-false, eq-eqb, ne_eqb}
 use Rattle.fcgi_records.specs.declared.header.Header.{Header}
 use Rattle.fcgi_records.specs.declared.state.Cause.{Cause}
 use Rattle.fcgi_records.specs.declared.state.Cause.TheVariants as cause
 use Rattle.fcgi_records.specs.declared.state.State.{State}
 use Rattle.fcgi_records.specs.declared.state.State.TheVariants as state
-use Rattle.fcgi_records.specs.States.{number, of_version, step, judged, by_kind, after_protocol, in_padding, in_stdout, in_stderr, in_status, in_unused, in_end_padding}
-use Rattle.fcgi_records.specs.Reading.{state_after}
-use Rattle.fcgi_records.specs.Grammar.{Source, Stdout, Stderr, kind_of, Piece, Ending, IsPiece, ArePieces, IsEnding, print_header, print_piece, print_pieces, print_ending, print_raw, content_of, stdout_of, IsWrong, WrongHeader, WrongStatus, OneMore, Breaks}
+use Rattle.fcgi_records.specs.States.{number, of_version, step, judged, by_kind, in_padding, in_stdout, in_stderr, in_status, in_unused, in_end_padding}
+use Rattle.fcgi_records.specs.Grammar.{Source, Stdout, Stderr, kind_of, Piece, Ending, IsPiece, ArePieces, IsEnding, print_header, print_piece, print_pieces, print_ending, print_raw, content_of, stdout_of, IsWrong, WrongHeader, Breaks}
 use Rattle.fcgi_records.proofs.Moving.{Goes, goes_nowhere, goes_on, framing_then, counted_then, padding_counts, stderr_counts, status_counts, unused_counts, end_counts, stdout_then}
 
 -- the bytes of a header

@@ -1,5 +1,5 @@
 -- The laws on what bytes say.
-use Rattle.std.proofs.Common.{◌≡◌, zero, suc, ℕ, ◌+◌, ◌-◌, ◌*◌, ◌/◌, ◌%◌, ◌<◌, ◌≤◌, ◌==◌, Bool, true, false, cond, List, [], ◌∷◌, ◌++◌, length, take, drop, refl, ap, sym, subst, ◌∙◌, append_assoc, append-nil, length-append, length-drop, take_all, arith}
+use Rattle.std.proofs.Common.{◌≡◌, suc, ℕ, ◌+◌, ◌-◌, ◌/◌, ◌%◌, ◌<◌, ◌==◌, Bool, true, false, cond, List, [], ◌∷◌, ◌++◌, length, take, refl, ap, sym, subst, ◌∙◌, append_assoc, append-nil, length-append, length-drop, take_all, arith}
 use Rattle.std.proofs.lemmas.Bool.{cond_both, eqb-false, false≢true}
 use Rattle.fcgi_records.specs.declared.header.Header.{Header}
 use Rattle.fcgi_records.specs.declared.state.Cause.{Cause}
@@ -7,15 +7,15 @@ use Rattle.fcgi_records.specs.declared.state.State.{State}
 use Rattle.fcgi_records.specs.declared.state.State.TheVariants as state
 use Rattle.fcgi_records.specs.States.{number, step, judged, by_kind, is_broken, kept_from, in_padding, in_stdout, in_stderr, in_status, in_unused, in_end_padding, after_protocol}
 use Rattle.fcgi_records.specs.Sound.{IsSoundState}
-use Rattle.fcgi_records.specs.Reading.{state_after, stdout_in, taken_in, Said, Open, Done, Broken, said_at, said}
-use Rattle.fcgi_records.specs.Grammar.{Source, Stdout, Piece, Ending, Answer, IsPiece, ArePieces, IsEnding, IsAnswer, print_header, print_piece, print_pieces, print_ending, print, stdout_of, Breaks}
+use Rattle.fcgi_records.specs.Reading.{state_after, stdout_in, taken_in, Done, Broken, said_at, said}
+use Rattle.fcgi_records.specs.Grammar.{Stdout, Piece, Ending, Answer, ArePieces, IsAnswer, print_pieces, print_ending, print, stdout_of}
 use Rattle.fcgi_records.specs.Encoded.{header_of}
 use Rattle.fcgi_records.specs.Laws.{Spells, IsRefused, records_of, AreShort, joined, served}
-use Rattle.fcgi_records.proofs.ReadingLemmas.{rests, after_append, stdout_append, taken_append}
+use Rattle.fcgi_records.proofs.ReadingLemmas.{rests}
 use Rattle.fcgi_records.proofs.Moving.{Goes, goes_on}
 use Rattle.fcgi_records.proofs.Printed.{pieces_then, ending_then, break_then}
-use Rattle.fcgi_records.proofs.Held.{Held, held_nothing, pieces_append}
-use Rattle.fcgi_records.proofs.Told.{IsWhole, Tells, Told, told_step}
+use Rattle.fcgi_records.proofs.Held.{held_nothing, pieces_append}
+use Rattle.fcgi_records.proofs.Told.{IsWhole, Told, told_step}
 
 -- what holds of each state holds one byte further
 some_left : (n : ℕ) → (n == 0) ≡ false → 0 < n

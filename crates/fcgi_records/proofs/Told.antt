@@ -1,6 +1,6 @@
 -- What the bytes are that a stream has read: for each state, what stands behind the whole records.
-use Rattle.std.proofs.Common.{◌≡◌, ◌≢◌, zero, suc, ℕ, ◌+◌, ◌-◌, ◌*◌, ◌<◌, ◌≤◌, ◌==◌, Bool, true, false, cond, List, [], ◌∷◌, ◌++◌, length, take, refl, ap, sym, subst, ◌∙◌, append_assoc, append-nil, length-append, arith}
-use Rattle.std.proofs.lemmas.Bool.{cond_both, eqb-true, eqb-false, false≢true}
+use Rattle.std.proofs.Common.{◌≡◌, ℕ, ◌+◌, ◌-◌, ◌<◌, ◌==◌, true, false, cond, List, [], ◌∷◌, ◌++◌, length, refl, ap, sym, subst, ◌∙◌, append_assoc, append-nil, length-append, arith}
+use Rattle.std.proofs.lemmas.Bool.{cond_both, eqb-true, eqb-false}
 use Rattle.fcgi_records.specs.declared.header.Header.{Header}
 use Rattle.fcgi_records.specs.declared.state.Cause.{Cause}
 use Rattle.fcgi_records.specs.declared.state.Cause.TheVariants as cause
@@ -8,7 +8,7 @@ use Rattle.fcgi_records.specs.declared.state.State.{State}
 use Rattle.fcgi_records.specs.declared.state.State.TheVariants as state
 use Rattle.fcgi_records.specs.States.{number, step, judged, by_kind, is_broken, kept_from, in_padding, in_stdout, in_stderr, in_status, in_unused, in_end_padding}
 use Rattle.fcgi_records.specs.Sound.{IsSoundState}
-use Rattle.fcgi_records.specs.Grammar.{Source, Stdout, Stderr, kind_of, Piece, Ending, IsEnding, print_header, print_piece, print_ending, print_raw, content_of, IsWrong, WrongHeader, WrongStatus, OneMore, Breaks}
+use Rattle.fcgi_records.specs.Grammar.{Source, Stdout, Stderr, kind_of, Ending, IsEnding, print_header, print_ending, print_raw, content_of, IsWrong, OneMore, Breaks}
 use Rattle.fcgi_records.proofs.Held.{Held, held_more, held_framing, held_piece}
 
 -- content of STDOUT or STDERR with so much to come

@@ -1,5 +1,5 @@
 -- What a call makes of a reader and its queues.
-use Rattle.std.specs.Prelude.{◌≡◌, ℕ, ◌+◌, ◌≤◌, List, [], ◌∷◌, ◌++◌, map, drop, length, Result, Ok, Err}
+use Rattle.std.specs.Prelude.{◌≡◌, ℕ, ◌+◌, ◌≤◌, List, [], ◌∷◌, ◌++◌, map, drop, length, Result, Err}
 use Rattle.chunkqueue.specs.Items.{Item, Byte, FileByte, Contents, items_of, count_of, memory_front}
 use Rattle.fcgi_records.specs.declared.reader.ReaderState.{ReaderState}
 use Rattle.fcgi_records.specs.declared.reader.RecordFault.{RecordFault}

@@ -1,8 +1,8 @@
 -- Words of the laws on what bytes say.
-use Rattle.std.specs.Prelude.{◌≡◌, ◌<◌, ℕ, List, [], ◌∷◌, ◌++◌, length, replicate}
+use Rattle.std.specs.Prelude.{◌≡◌, ◌<◌, ℕ, List, [], ◌∷◌, ◌++◌, length}
 use Rattle.fcgi_records.specs.declared.state.Cause.{Cause}
 use Rattle.fcgi_records.specs.Encoded.{header_of}
-use Rattle.fcgi_records.specs.Grammar.{Piece, Ending, Answer, IsPiece, ArePieces, IsEnding, IsAnswer, print_piece, print_pieces, print_ending, print, stdout_of, Breaks}
+use Rattle.fcgi_records.specs.Grammar.{Piece, Answer, ArePieces, IsAnswer, print_pieces, print, stdout_of, Breaks}
 
 -- the bytes are an answer, which carries this
 pub record Spells (bytes stdout : List ℕ) : Type 0 where
