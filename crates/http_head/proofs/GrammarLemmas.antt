@@ -168,7 +168,7 @@ length_to_end-token e [] more ys n h pass line r = absurd (omega arith)
 length_to_end-token e (m ∷ ms) more ys n h pass line r =
     length_to_end-next e m ((ms ++ more) ++ ys) (length (m ∷ (ms ++ more)) + n) (token_starts m (All-head (λ b. IsTrue (is_token_byte b)) m ms pass)) (length_to_end-run (m ∷ (ms ++ more)) ys n line r)
 
-length_to_end-section : (e : LineEnd) (fields : List Field) (last : LineEnd) (rest : List ℕ) → All IsField fields
+pub length_to_end-section : (e : LineEnd) (fields : List Field) (last : LineEnd) (rest : List ℕ) → All IsField fields
     → length_to_end (print_end e ++ (print_section fields last ++ rest)) ≡ Some (length (print_end e) + length (print_section fields last))
 length_to_end-section e [] last rest valid = length_to_end-last e last rest
 length_to_end-section e (f ∷ fs) last rest valid =

@@ -29,11 +29,11 @@ word_at test [] stop ys some h n = absurd (omega arith)
 word_at test (b ∷ w) stop ys some h n =
     rw (run_at test (b ∷ w) stop ys h n, after_run_at test (b ∷ w) stop ys h n) (rw (eq-eqb stop stop refl) refl)
 
-end_at : (e : LineEnd) (ys : List ℕ) → read_end (print_end e ++ ys) ≡ Some (e, ys)
+pub end_at : (e : LineEnd) (ys : List ℕ) → read_end (print_end e ++ ys) ≡ Some (e, ys)
 end_at crlf ys = refl
 end_at lf ys = refl
 
-raw_at : (raw : List ℕ) (e : LineEnd) (ys : List ℕ) → AllPass is_value_byte raw → (run is_value_byte (raw ++ (print_end e ++ ys)) ≡ raw) × (after_run is_value_byte (raw ++ (print_end e ++ ys)) ≡ print_end e ++ ys)
+pub raw_at : (raw : List ℕ) (e : LineEnd) (ys : List ℕ) → AllPass is_value_byte raw → (run is_value_byte (raw ++ (print_end e ++ ys)) ≡ raw) × (after_run is_value_byte (raw ++ (print_end e ++ ys)) ≡ print_end e ++ ys)
 raw_at raw crlf ys h = (run_at is_value_byte raw 13 (10 ∷ ys) h refl, after_run_at is_value_byte raw 13 (10 ∷ ys) h refl)
 raw_at raw lf ys h = (run_at is_value_byte raw 10 ys h refl, after_run_at is_value_byte raw 10 ys h refl)
 
@@ -52,7 +52,7 @@ no_end_field : (name more : List ℕ) → 0 < length name → AllPass is_token_b
 no_end_field [] more h pass = absurd (omega arith)
 no_end_field (m ∷ ms) more h pass = no_end m (ms ++ more) (token_starts m (All-head (λ b. IsTrue (is_token_byte b)) m ms pass))
 
-section_at : (n : ℕ) (fields : List Field) (last : LineEnd) (rest : List ℕ) → length fields < n → All IsField fields → read_section n (print_section fields last ++ rest) ≡ Some ((fields, last), rest)
+pub section_at : (n : ℕ) (fields : List Field) (last : LineEnd) (rest : List ℕ) → length fields < n → All IsField fields → read_section n (print_section fields last ++ rest) ≡ Some ((fields, last), rest)
 unfolding read_section
 section_at zero fields last rest room valid = absurd (omega arith)
 section_at (suc n) [] last rest room valid = rw (end_at last rest) refl
@@ -63,7 +63,7 @@ section_at (suc n) (f ∷ fs) last rest room valid =
     ap read_end (append_assoc f.name (58 ∷ f.raw) (print_end f.end ++ tail)) ∙ no_end_field f.name (58 ∷ (f.raw ++ (print_end f.end ++ tail))) v.name.0 v.name.1 in
     rw (section_split f fs last rest, none, field_at f tail v) (rw (section_at n fs last rest (omega arith) (All-tail IsField f fs valid)) refl)
 
-blank_here : (m : ℕ) (ms : List ℕ) → Starts m → read_blank (m ∷ ms) ≡ ([], m ∷ ms)
+pub blank_here : (m : ℕ) (ms : List ℕ) → Starts m → read_blank (m ∷ ms) ≡ ([], m ∷ ms)
 blank_here m [] s = rw (ne_eqb m 10 s.0) refl
 blank_here m (x ∷ ms) s = rw (ne_eqb m 10 s.0, ne_eqb m 13 s.1) refl
 
@@ -71,7 +71,7 @@ blank_lf : (xs : List ℕ) → read_blank (10 ∷ xs) ≡ with_end lf (read_blan
 blank_lf [] = refl
 blank_lf (x ∷ xs) = refl
 
-blank_at : (ends : List LineEnd) (m : ℕ) (ms : List ℕ) → Starts m → read_blank (print_blank ends ++ (m ∷ ms)) ≡ (ends, m ∷ ms)
+pub blank_at : (ends : List LineEnd) (m : ℕ) (ms : List ℕ) → Starts m → read_blank (print_blank ends ++ (m ∷ ms)) ≡ (ends, m ∷ ms)
 blank_at [] m ms s = blank_here m ms s
 blank_at (crlf ∷ ends) m ms s = ap (with_end crlf) (blank_at ends m ms s)
 blank_at (lf ∷ ends) m ms s = blank_lf (print_blank ends ++ (m ∷ ms)) ∙ ap (with_end lf) (blank_at ends m ms s)
@@ -80,12 +80,12 @@ blank_token : (ends : List LineEnd) (name more : List ℕ) → 0 < length name �
 blank_token ends [] more h pass = absurd (omega arith)
 blank_token ends (m ∷ ms) more h pass = blank_at ends m (ms ++ more) (token_starts m (All-head (λ b. IsTrue (is_token_byte b)) m ms pass))
 
-minor_at : (n : ℕ) (ys : List ℕ) → n ≤ 1 → read_minor ((48 + n) ∷ ys) ≡ Some (n, ys)
+pub minor_at : (n : ℕ) (ys : List ℕ) → n ≤ 1 → read_minor ((48 + n) ∷ ys) ≡ Some (n, ys)
 minor_at zero ys h = refl
 minor_at (suc zero) ys h = refl
 minor_at (suc (suc n)) ys h = absurd (omega arith)
 
-fields_short : (fields : List Field) (last : LineEnd) (rest : List ℕ) → All IsField fields → length fields ≤ length (print_section fields last ++ rest)
+pub fields_short : (fields : List Field) (last : LineEnd) (rest : List ℕ) → All IsField fields → length fields ≤ length (print_section fields last ++ rest)
 fields_short [] last rest valid = omega arith
 fields_short (f ∷ fs) last rest valid =
     let v = All-head IsField f fs valid in
@@ -115,15 +115,15 @@ read_complete bytes h rest r = ap read_request r.1 ∙ request_at h rest r.0
 
 -- ---- what is read is printed so
 
-bind_some : {A B : Type 0} (o : Option A) (f : A → Option B) (y : B) → option_and_then f o ≡ Some y → (x : A) × (o ≡ Some x) × (f x ≡ Some y)
+pub bind_some : {A B : Type 0} (o : Option A) (f : A → Option B) (y : B) → option_and_then f o ≡ Some y → (x : A) × (o ≡ Some x) × (f x ≡ Some y)
 bind_some None f y e = cc
 bind_some (Some x) f y e = (x, refl, e)
 
-map_some : {A B : Type 0} (o : Option A) (f : A → B) (y : B) → option_map f o ≡ Some y → (x : A) × (o ≡ Some x) × (f x ≡ y)
+pub map_some : {A B : Type 0} (o : Option A) (f : A → B) (y : B) → option_map f o ≡ Some y → (x : A) × (o ≡ Some x) × (f x ≡ y)
 map_some None f y e = cc
 map_some (Some x) f y e = (x, refl, same_Some (f x) y e)
 
-run_split : (test : ℕ → Bool) (xs : List ℕ) → run test xs ++ after_run test xs ≡ xs
+pub run_split : (test : ℕ → Bool) (xs : List ℕ) → run test xs ++ after_run test xs ≡ xs
 run_split test [] = refl
 run_split test (b ∷ bs) = by (test b) (run_split test bs)
   where
@@ -131,7 +131,7 @@ run_split test (b ∷ bs) = by (test b) (run_split test bs)
     by true e = ap (λ r. b ∷ r) e
     by false e = refl
 
-run_passes : (test : ℕ → Bool) (xs : List ℕ) → AllPass test (run test xs)
+pub run_passes : (test : ℕ → Bool) (xs : List ℕ) → AllPass test (run test xs)
 run_passes test [] = All-nil (λ b. IsTrue (test b))
 run_passes test (b ∷ bs) = by (test b) refl (run_passes test bs)
   where
@@ -139,7 +139,7 @@ run_passes test (b ∷ bs) = by (test b) refl (run_passes test bs)
     by true e h = All-cons (λ b. IsTrue (test b)) b (run test bs) e h
     by false e h = All-nil (λ b. IsTrue (test b))
 
-byte_sound : (c : ℕ) (xs r : List ℕ) → read_byte c xs ≡ Some r → xs ≡ c ∷ r
+pub byte_sound : (c : ℕ) (xs r : List ℕ) → read_byte c xs ≡ Some r → xs ≡ c ∷ r
 byte_sound c [] r e = cc
 byte_sound c (b ∷ bs) r e = by (eqb b c) refl e
   where
@@ -147,7 +147,7 @@ byte_sound c (b ∷ bs) r e = by (eqb b c) refl e
     by true t e = ap (λ k. k ∷ bs) (eqb-true b c t) ∙ ap (λ s. c ∷ s) (same_Some bs r e)
     by false t e = cc
 
-bytes_sound : (cs xs r : List ℕ) → read_bytes cs xs ≡ Some r → xs ≡ cs ++ r
+pub bytes_sound : (cs xs r : List ℕ) → read_bytes cs xs ≡ Some r → xs ≡ cs ++ r
 bytes_sound [] xs r e = same_Some xs r e
 bytes_sound (c ∷ cs) xs r e =
     let b = bind_some (read_byte c xs) (read_bytes cs) r e in
@@ -174,7 +174,7 @@ word_sound test stop xs p e =
       split = sym (run_split test xs) ∙ ap (λ r. r ++ after_run test xs) w.1 ∙ ap (λ r. p.0 ++ r) (byte_sound stop (after_run test xs) p.1 w.2);
     }
 
-end_sound : (xs : List ℕ) (p : LineEnd × List ℕ) → read_end xs ≡ Some p → xs ≡ print_end p.0 ++ p.1
+pub end_sound : (xs : List ℕ) (p : LineEnd × List ℕ) → read_end xs ≡ Some p → xs ≡ print_end p.0 ++ p.1
 end_sound [] p e = cc
 end_sound (b ∷ bs) p e = by (eqb b 10) (eqb b 13) refl refl e
   where
@@ -212,7 +212,7 @@ pub record IsSectionIn (xs : List ℕ) (p : Section) : Type 0 where
 assoc3 : (a b c d : List ℕ) → ((a ++ b) ++ c) ++ d ≡ a ++ ((b ++ c) ++ d)
 assoc3 a b c d = simp append_assoc
 
-section_sound : (n : ℕ) (xs : List ℕ) (p : Section) → read_section n xs ≡ Some p → IsSectionIn xs p
+pub section_sound : (n : ℕ) (xs : List ℕ) (p : Section) → read_section n xs ≡ Some p → IsSectionIn xs p
 unfolding read_section
 section_sound zero xs p e = cc
 section_sound (suc n) xs p e = by (read_end xs) (read_field xs) (λ d. end_sound xs d) (λ f. field_sound xs f) (section_sound n) e
@@ -231,10 +231,10 @@ section_sound (suc n) xs p e = by (read_end xs) (read_field xs) (λ d. end_sound
           split = i.split ∙ ap (λ r. print_field f.0 ++ r) s.split ∙ sym (assoc3 (print_field f.0) (flat_map print_field m.0.0.0) (print_end m.0.0.1) m.0.1);
         })
 
-abbrev IsBlankIn : List ℕ → List LineEnd × List ℕ → Type 0
+abbrev pub IsBlankIn : List ℕ → List LineEnd × List ℕ → Type 0
 IsBlankIn xs p = xs ≡ print_blank p.0 ++ p.1
 
-blank_sound : (xs : List ℕ) → IsBlankIn xs (read_blank xs)
+pub blank_sound : (xs : List ℕ) → IsBlankIn xs (read_blank xs)
 blank_sound [] = refl
 blank_sound (a ∷ []) = by (eqb a 10) refl
   where
@@ -250,7 +250,7 @@ blank_sound (a ∷ b ∷ rest) = by (eqb a 10) (eqb a 13) (eqb b 10) refl refl r
     by false true false ex ey ez one two = refl
     by false false z ex ey ez one two = refl
 
-minor_sound : (xs : List ℕ) (p : ℕ × List ℕ) → read_minor xs ≡ Some p → (p.0 ≤ 1) × (xs ≡ (48 + p.0) ∷ p.1)
+pub minor_sound : (xs : List ℕ) (p : ℕ × List ℕ) → read_minor xs ≡ Some p → (p.0 ≤ 1) × (xs ≡ (48 + p.0) ∷ p.1)
 minor_sound [] p e = cc
 minor_sound (b ∷ bs) p e = by (eqb b 48) (eqb b 49) refl refl e
   where

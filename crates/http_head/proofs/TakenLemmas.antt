@@ -22,7 +22,7 @@ taken_one f v short = record {
   value = AllPass-trim_ows read.is_value_byte f.raw v.raw;
 }
 
-taken_all : (fs : List Field) → All IsField fs → All (λ f. length f.name ≤ 65535) fs → All IsTaken (map name_and_value fs)
+pub taken_all : (fs : List Field) → All IsField fs → All (λ f. length f.name ≤ 65535) fs → All IsTaken (map name_and_value fs)
 taken_all [] v short = All-nil IsTaken
 taken_all (f ∷ fs) v short =
     All-cons IsTaken (name_and_value f) (map name_and_value fs) (taken_one f (All-head IsField f fs v) (All-head (λ f. length f.name ≤ 65535) f fs short))
@@ -31,13 +31,13 @@ taken_all (f ∷ fs) v short =
 pub map_takes : (bytes : List ℕ) (h : RequestHead) (rest : List ℕ) → ReadsRequest bytes h rest → All (λ f. length f.name ≤ 65535) h.fields → All IsTaken (pairs_of h)
 map_takes bytes h rest r short = taken_all h.fields r.0.fields short
 
-values_pass : (fs : List Field) → All IsField fs → All (λ (p : Pair). IsFieldValue p.1) (map name_and_value fs)
+pub values_pass : (fs : List Field) → All IsField fs → All (λ (p : Pair). IsFieldValue p.1) (map name_and_value fs)
 values_pass [] v = All-nil (λ (p : Pair). IsFieldValue p.1)
 values_pass (f ∷ fs) v =
     All-cons (λ (p : Pair). IsFieldValue p.1) (name_and_value f) (map name_and_value fs) (AllPass-trim_ows read.is_value_byte f.raw (All-head IsField f fs v).raw)
     (values_pass fs (All-tail IsField f fs v))
 
-parts_pass : (buf : List ℕ) (hs : List HeaderSpan) → All (λ (p : Pair). IsFieldValue p.1) (map (header_bytes buf) hs) → All (λ (h : HeaderSpan). IsFieldValue (span_bytes buf h.value)) hs
+pub parts_pass : (buf : List ℕ) (hs : List HeaderSpan) → All (λ (p : Pair). IsFieldValue p.1) (map (header_bytes buf) hs) → All (λ (h : HeaderSpan). IsFieldValue (span_bytes buf h.value)) hs
 parts_pass buf [] v = All-nil (λ (h : HeaderSpan). IsFieldValue (span_bytes buf h.value))
 parts_pass buf (h ∷ hs) v =
     All-cons (λ (h : HeaderSpan). IsFieldValue (span_bytes buf h.value)) h hs (All-head (λ (p : Pair). IsFieldValue p.1) (header_bytes buf h) (map (header_bytes buf) hs) v)

@@ -106,7 +106,7 @@ fn field(
 
 /// The fields that the spans cover, in order. Their names and values are parts of one copy of the
 /// bytes.
-pub(crate) fn read_fields(
+pub fn read_fields(
     alloc: Global,
     buf: &[u8],
     headers: &[HeaderSpan],

@@ -20,8 +20,10 @@ mod scan;
 mod tests;
 
 pub use ends::{HeadEnd, head_end};
+pub use fields::read_fields;
 pub use framing::Framing;
 pub use head::{Request, read_head};
 pub use limits::{FIELD_LINE_LIMIT, HEAD_LIMIT};
+pub use options::has_option;
 pub use refusal::HeadRefusal;
 pub use scan::HeadScan;

@@ -18,7 +18,7 @@ fn lists(word: &[u8], value: &[u8]) -> bool
 }
 
 /// Whether Connection has the option.
-fn has_option(fields: &HeaderMap<HeaderValue>, word: &[u8]) -> bool
+pub fn has_option(fields: &HeaderMap<HeaderValue>, word: &[u8]) -> bool
     ensures { result ≡ has_option fields.now word.now }
 {
     fields
