@@ -1,0 +1,5 @@
+pub mod Passed
+pub mod Request
+pub mod Pairs
+pub mod Params
+pub mod Head
