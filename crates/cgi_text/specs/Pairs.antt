@@ -5,14 +5,15 @@ use Rattle.std.specs.Prelude.{ℕ, zero, suc, ◌+◌, ◌-◌, ◌*◌, ◌/◌
 abbrev pub PairList : Type 0
 PairList = List (List ℕ × List ℕ)
 
--- a length up to 127 is one byte; a greater one is four, the greatest first, with the top bit set
-abbrev pub length_bytes : ℕ → List ℕ
+-- a length up to 127 is one byte; a greater one is four, the greatest first, of which the top bit is set: the form has
+-- room for lengths below 2^31
+unfoldable pub length_bytes : ℕ → List ℕ
 length_bytes n =
     if nat_le n 127 then n ∷ []
-    else (128 + n / 16_777_216) ∷ (n / 65_536 % 256) ∷ (n / 256 % 256) ∷ (n % 256) ∷ []
+    else (128 + n / 16_777_216 % 128) ∷ (n / 65_536 % 256) ∷ (n / 256 % 256) ∷ (n % 256) ∷ []
 
 -- the two lengths, the name and the value
-abbrev pub pair_bytes : List ℕ × List ℕ → List ℕ
+unfoldable pub pair_bytes : List ℕ × List ℕ → List ℕ
 pair_bytes p = length_bytes (length p.0) ++ (length_bytes (length p.1) ++ (p.0 ++ p.1))
 
 -- the pairs, one after another

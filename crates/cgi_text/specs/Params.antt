@@ -1,5 +1,5 @@
 -- The parameters of a request (RFC 3875, section 4.1; FastCGI Specification 1.0, section 6.2; lighttpd's mod_fastcgi).
-use Rattle.std.specs.Prelude.{ℕ, ◌+◌, Bool, List, [], ◌∷◌, ◌++◌, length, map, sum_by, flat_map, bytes_eq, codes, decimal, if◌then◌else◌}
+use Rattle.std.specs.Prelude.{ℕ, ◌+◌, ◌==◌, Bool, List, [], ◌∷◌, ◌++◌, length, map, sum_by, flat_map, bytes_eq, codes, decimal, if◌then◌else◌}
 use Rattle.std.specs.Char.{is_ascii_alphanumeric, to_ascii_uppercase}
 use Rattle.std.specs.List.{list_any}
 use Rattle.http_header.specs.FieldValue.{FieldValue}
@@ -54,19 +54,23 @@ abbrev pub server_name : List ℕ → List ℕ → List ℕ
 server_name [] ip = ip_text ip
 server_name (b ∷ host) ip = b ∷ host
 
+-- the version of the request
+abbrev pub protocol : ℕ → List ℕ
+protocol minor = if minor == 0 then codes "HTTP/1.0" else codes "HTTP/1.1"
+
 -- of the server and of the start line
-abbrev pub request_params : RequestParts → PairList
+unfoldable pub request_params : RequestParts → PairList
 request_params r =
     (codes "GATEWAY_INTERFACE", codes "CGI/1.1")
     ∷ (codes "SERVER_SOFTWARE", r.tag)
-    ∷ (codes "SERVER_PROTOCOL", codes "HTTP/1." ++ decimal r.minor)
+    ∷ (codes "SERVER_PROTOCOL", protocol r.minor)
     ∷ (codes "REQUEST_METHOD", r.method)
     ∷ (codes "REQUEST_URI", r.uri)
     ∷ (codes "QUERY_STRING", r.query)
     ∷ []
 
 -- of the script
-abbrev pub script_params : RequestParts → PairList
+unfoldable pub script_params : RequestParts → PairList
 script_params r =
     (codes "DOCUMENT_ROOT", r.root)
     ∷ (codes "SCRIPT_NAME", r.script)
@@ -74,7 +78,7 @@ script_params r =
     ∷ info_param r.info
 
 -- of the two ends of the connection
-abbrev pub address_params : RequestParts → PairList
+unfoldable pub address_params : RequestParts → PairList
 address_params r =
     (codes "SERVER_NAME", server_name r.host r.local.ip)
     ∷ (codes "SERVER_ADDR", ip_text r.local.ip)
@@ -84,7 +88,7 @@ address_params r =
     ∷ []
 
 -- of the body
-abbrev pub body_params : RequestParts → PairList
+unfoldable pub body_params : RequestParts → PairList
 body_params r =
     (codes "CONTENT_LENGTH", decimal r.body_len)
     ∷ (codes "REDIRECT_STATUS", codes "200")

@@ -10,12 +10,17 @@
 
 mod address;
 mod head;
+mod pairs;
 mod passed;
 mod request;
 mod state;
+mod status;
+mod values;
+mod variables;
 
 pub use address::push_ip;
-pub use head::{CgiHead, CgiRefusal};
+pub use head::{CgiHead, CgiRefusal, read_cgi_head};
 pub use passed::{passed_fields, stated_length};
 pub use request::GateRequest;
 pub use state::GateState;
+pub use variables::params;

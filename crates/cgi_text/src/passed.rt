@@ -33,10 +33,7 @@ fn pass(passed: &mut Fields, name: &[u8], value: &[u8]) -> Result<(), NoMemory>
 
 /// The fields that a client gets of a gateway's answer: by name in order of first coming, each value
 /// on a line of its own, all but the status, the framing, the connection's own fields and the date.
-pub fn passed_fields(
-    alloc: Global,
-    fields: &HeaderMap<HeaderValue>,
-) -> Result<Fields, NoMemory>
+pub fn passed_fields(alloc: Global, fields: &HeaderMap<HeaderValue>) -> Result<Fields, NoMemory>
     ensures { IfOk result (λ passed. passed ≡ passed_on fields.now) }
 {
     let mut passed = Fields::new(alloc);
