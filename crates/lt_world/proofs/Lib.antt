@@ -1,3 +1,4 @@
+pub mod ActLaws
 pub mod Disks
 pub mod FileLaws
 pub mod SinkLaws

@@ -62,7 +62,7 @@ undialled : (act : Act) (link : ℕ) → dial_bound act ≤ link → dials act l
 undialled (Accepted peer local) link above = refl
 undialled Readable link above = refl
 undialled Writable link above = refl
-undialled (Read bytes) link above = refl
+undialled (Read asked bytes) link above = refl
 undialled ReadEnd link above = refl
 undialled (NotYet way) link above = refl
 undialled (Failed way) link above = refl

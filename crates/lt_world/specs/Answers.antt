@@ -57,7 +57,7 @@ UsesEvent event.NoMemory before after = after ≡ before
 UsesEvent other before after = after < before
 
 abbrev pub read_act : Got → List ℕ → Act
-read_act (got.Bytes n) buf = Read (take n buf)
+read_act (got.Bytes n) buf = Read (length buf) (take n buf)
 read_act got.End buf = ReadEnd
 read_act got.NotYet buf = NotYet Reading
 read_act got.Failed buf = Failed Reading

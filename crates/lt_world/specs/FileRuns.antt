@@ -1,5 +1,6 @@
 -- What each call of files in memory makes of them, and what they may become.
-use Rattle.std.specs.Prelude.{◌≡◌, ℕ, List, [], ◌∷◌, ◌++◌, Option, Some, Bool, true, false, Result, Ok, Err, length, take, drop}
+use Rattle.std.specs.Prelude.{◌≡◌, ◌≤◌, ℕ, List, [], ◌∷◌, ◌++◌, Option, Some, Bool, true, false, Result, Ok, Err, length, take, drop}
+use Rattle.std.proofs.Common.{le_refl, le_trans}
 use Rattle.lt_world.specs.declared.files.FileCall.{FileCall}
 use Rattle.lt_world.specs.declared.files.FileCall.TheVariants as call
 use Rattle.lt_world.specs.declared.net.Owner.{Owner}
@@ -72,15 +73,26 @@ pub data Leads : Stored → Stored → Type 0 where
   reads : {a b : Stored} → Leads a b → (answer : Result (Unit {0}) Fault) (owner : Owner) → ReadPlanned answer (is_due b.read_plan) → Leads a (after_read answer owner b)
   releases : {a b : Stored} → Leads a b → (file : ℕ) → Leads a (after_release file b)
 
-pub Leads-same : (a : Stored) → Leads a a
-Leads-same a = same
-
 pub Leads-more : (a b c : Stored) → Leads a b → Leads b c → Leads a c
 Leads-more a b c ab same = ab
 Leads-more a b c ab (finds bc answer owner planned) = finds (Leads-more _ _ _ ab bc) answer owner planned
 Leads-more a b c ab (opens bc answer owner path planned) = opens (Leads-more _ _ _ ab bc) answer owner path planned
 Leads-more a b c ab (reads bc answer owner planned) = reads (Leads-more _ _ _ ab bc) answer owner planned
 Leads-more a b c ab (releases bc file) = releases (Leads-more _ _ _ ab bc) file
+
+-- what files in memory may become: some calls lead there, and their count of failures never falls
+pub record FilesLater (a b : Stored) : Type 0 where
+  pub leads : Leads a b
+  pub faults : a.faults ≤ b.faults
+
+pub FilesLater-same : (a : Stored) → FilesLater a a
+FilesLater-same a = record { leads = same; faults = le_refl a.faults }
+
+pub FilesLater-more : (a b c : Stored) → FilesLater a b → FilesLater b c → FilesLater a c
+FilesLater-more a b c ab bc = record { leads = Leads-more a b c ab.leads bc.leads; faults = le_trans ab.faults bc.faults }
+
+pub FilesLater-faults : (a b : Stored) → FilesLater a b → a.faults ≤ b.faults
+FilesLater-faults a b later = later.faults
 
 -- no call is to fail
 pub record IsUnplanned (s : Stored) : Type 0 where

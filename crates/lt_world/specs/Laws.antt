@@ -7,12 +7,18 @@ use Rattle.lt_world.specs.declared.net.Address.{Address}
 use Rattle.lt_world.specs.declared.net.Link.{Link}
 use Rattle.lt_world.specs.declared.net.Event.TheVariants as event
 use Rattle.lt_world.specs.declared.net.Dialled.TheVariants as dialled
+use Rattle.lt_world.specs.Trace.{Act}
+use Rattle.lt_world.specs.Acts.{input_of, output_of, ending_of, deeds_of}
 use Rattle.lt_world.specs.Answers.{IsNumbered, IsNumberedDial}
 use Rattle.lt_world.specs.Disk.{count, log_of, is_logged}
 use Rattle.lt_world.specs.FileRuns.{Leads, IsUnplanned}
 use Rattle.lt_world.specs.Memory.{Stored}
 use Rattle.lt_world.specs.SinkRuns.{Poured, Pours}
 use Rattle.lt_world.specs.TextRuns.{Shelf, Fetches}
+
+-- what the acts of a link come to is what its deeds come to: that it was ready brings no byte and closes nothing
+abbrev pub DeedsTellAll : Type 0
+DeedsTellAll = (acts : List Act) → (input_of (deeds_of acts) ≡ input_of acts) × (output_of (deeds_of acts) ≡ output_of acts) × (ending_of (deeds_of acts) ≡ ending_of acts)
 
 -- whatever is called, the count stays, and no plan comes
 abbrev pub FilesStayCalm : Type 0

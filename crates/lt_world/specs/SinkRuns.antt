@@ -1,5 +1,6 @@
 -- What a sink in memory holds, what each write makes of it, and what it may become.
 use Rattle.std.specs.Prelude.{◌≡◌, ℕ, ◌-◌, ◌<◌, ◌≤◌, min, List, [], ◌++◌, length, take, Option, Some, None, Bool, true, false, ◌==◌, ◌⊎◌, Result, Ok, Err}
+use Rattle.std.proofs.Common.{le_refl, le_trans}
 use Rattle.lt_world.specs.declared.fault.Fault.{Fault}
 use Rattle.lt_world.specs.Plans.{next}
 
@@ -36,9 +37,20 @@ pub data Pours : Poured → Poured → Type 0 where
   same : {a : Poured} → Pours a a
   writes : {a b : Poured} → Pours a b → (answer : Result ℕ Fault) (piece : List ℕ) → WritePlanned answer (length piece) b → Pours a (after_write answer piece b)
 
-pub Pours-same : (a : Poured) → Pours a a
-Pours-same a = same
-
 pub Pours-more : (a b c : Poured) → Pours a b → Pours b c → Pours a c
 Pours-more a b c ab same = ab
 Pours-more a b c ab (writes bc answer piece planned) = writes (Pours-more _ _ _ ab bc) answer piece planned
+
+-- what a sink in memory may become: some writes lead there, and its count of failures never falls
+pub record SinkLater (a b : Poured) : Type 0 where
+  pub leads : Pours a b
+  pub faults : a.faults ≤ b.faults
+
+pub SinkLater-same : (a : Poured) → SinkLater a a
+SinkLater-same a = record { leads = same; faults = le_refl a.faults }
+
+pub SinkLater-more : (a b c : Poured) → SinkLater a b → SinkLater b c → SinkLater a c
+SinkLater-more a b c ab bc = record { leads = Pours-more a b c ab.leads bc.leads; faults = le_trans ab.faults bc.faults }
+
+pub SinkLater-faults : (a b : Poured) → SinkLater a b → a.faults ≤ b.faults
+SinkLater-faults a b later = later.faults

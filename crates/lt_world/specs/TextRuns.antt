@@ -1,6 +1,7 @@
 -- What texts in memory hold, what each call makes of them, and what they may become.
-use Rattle.std.specs.Prelude.{◌≡◌, ℕ, List, [], ◌∷◌, Option, Some, None, Bool, true, false, if◌then◌else◌}
+use Rattle.std.specs.Prelude.{◌≡◌, ◌≤◌, ℕ, List, [], ◌∷◌, Option, Some, None, Bool, true, false, if◌then◌else◌}
 use Rattle.std.specs.Str.{bytes_eq}
+use Rattle.std.proofs.Common.{le_refl, le_trans}
 use denote.Ref.{Bor}
 use Rattle.lt_world.specs.declared.texts.Fetched.{Fetched}
 use Rattle.lt_world.specs.declared.texts.Fetched.TheVariants as fetched
@@ -64,9 +65,20 @@ pub data Fetches : Shelf → Shelf → Type 0 where
   same : {a : Shelf} → Fetches a a
   fetches : {a b : Shelf} → Fetches a b → (answer : Fetched) (name : List ℕ) → FetchPlanned answer (is_due b.plan) → Fetches a (after_fetch answer name b)
 
-pub Fetches-same : (a : Shelf) → Fetches a a
-Fetches-same a = same
-
 pub Fetches-more : (a b c : Shelf) → Fetches a b → Fetches b c → Fetches a c
 Fetches-more a b c ab same = ab
 Fetches-more a b c ab (fetches bc answer name planned) = fetches (Fetches-more _ _ _ ab bc) answer name planned
+
+-- what texts in memory may become: some calls lead there, and their count of failures never falls
+pub record TextsLater (a b : Shelf) : Type 0 where
+  pub leads : Fetches a b
+  pub faults : a.faults ≤ b.faults
+
+pub TextsLater-same : (a : Shelf) → TextsLater a a
+TextsLater-same a = record { leads = same; faults = le_refl a.faults }
+
+pub TextsLater-more : (a b c : Shelf) → TextsLater a b → TextsLater b c → TextsLater a c
+TextsLater-more a b c ab bc = record { leads = Fetches-more a b c ab.leads bc.leads; faults = le_trans ab.faults bc.faults }
+
+pub TextsLater-faults : (a b : Shelf) → TextsLater a b → a.faults ≤ b.faults
+TextsLater-faults a b later = later.faults

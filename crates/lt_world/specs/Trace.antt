@@ -15,8 +15,8 @@ pub data Act : Type 0 where
   Accepted : Address → Address → Act
   Readable : Act
   Writable : Act
-  -- the bytes that came
-  Read : List ℕ → Act
+  -- how many bytes were asked for, and those that came
+  Read : ℕ → List ℕ → Act
   ReadEnd : Act
   -- a read gave nothing, or a write took nothing
   NotYet : Way → Act

@@ -64,7 +64,7 @@ pub trait Files {
     /// The owner of the last `read_at` that failed.
     ghost failed_read: { Self → Option Owner };
 
-    /// The second files are what the first may become.
+    /// The second files are what the first may become. What is later has failed as often or more.
     ghost later: { Self → Self → Type 0 };
 
     /// What stands at a path.
@@ -114,4 +114,6 @@ pub trait Files {
     ghost later_same: { (files : Self) → later files files };
 
     ghost later_later: { (a b c : Self) → later a b → later b c → later a c };
+
+    ghost later_faults: { (a b : Self) → later a b → faults a ≤ faults b };
 }

@@ -1,5 +1,10 @@
 //! Laws of the outside. Each is the contract of a function without a body.
-ghost use Rattle.lt_world.specs.Laws.{FilesStayCalm, TextsStayCalm, SinksStayCalm, LogIsQuiet, NoneArrives, NoneIsDialled};
+ghost use Rattle.lt_world.specs.Laws.{DeedsTellAll, FilesStayCalm, TextsStayCalm, SinksStayCalm, LogIsQuiet, NoneArrives, NoneIsDialled};
+
+/// The bytes that came and went on a link, and how it ended, are those of its deeds.
+pub fn deeds_tell_all()
+    ensures { DeedsTellAll }
+{}
 
 /// Files in memory for which nothing is planned never fail, whatever is called.
 pub fn unplanned_files_never_fail()

@@ -195,7 +195,7 @@ impl MemFiles {
 
 impl Files for MemFiles {
     ghost use Rattle.lt_world.specs.Memory.{disk_of};
-    ghost use Rattle.lt_world.specs.FileRuns.{Leads, Leads-same, Leads-more};
+    ghost use Rattle.lt_world.specs.FileRuns.{FilesLater, FilesLater-same, FilesLater-more, FilesLater-faults};
 
     ghost tells = { Unit {0} };
 
@@ -205,11 +205,13 @@ impl Files for MemFiles {
 
     ghost failed_read = { λ files. files.failed_read };
 
-    ghost later = { Leads };
+    ghost later = { FilesLater };
 
-    ghost later_same = { Leads-same };
+    ghost later_same = { FilesLater-same };
 
-    ghost later_later = { Leads-more };
+    ghost later_later = { FilesLater-more };
+
+    ghost later_faults = { FilesLater-faults };
 
     fn find(&mut self, owner: Owner, path: &[u8]) -> Found {
         self.find_next(owner, path)

@@ -99,7 +99,7 @@ fn keep(kept: &mut Vec<u8>, bytes: &[u8])
 }
 
 impl Sink for MemSink {
-    ghost use Rattle.lt_world.specs.SinkRuns.{Pours, Pours-same, Pours-more};
+    ghost use Rattle.lt_world.specs.SinkRuns.{SinkLater, SinkLater-same, SinkLater-more, SinkLater-faults};
 
     ghost tells = { Unit {0} };
 
@@ -107,11 +107,13 @@ impl Sink for MemSink {
 
     ghost faults = { λ sink. sink.faults };
 
-    ghost later = { Pours };
+    ghost later = { SinkLater };
 
-    ghost later_same = { Pours-same };
+    ghost later_same = { SinkLater-same };
 
-    ghost later_later = { Pours-more };
+    ghost later_later = { SinkLater-more };
+
+    ghost later_faults = { SinkLater-faults };
 
     fn write(&mut self, piece: &[u8]) -> Result<usize, Fault> {
         self.write_next(piece)

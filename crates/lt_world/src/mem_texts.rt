@@ -145,7 +145,7 @@ fn last_named<'a>(texts: &'a [NamedText], name: &[u8]) -> Option<&'a [u8]>
 }
 
 impl Texts for MemTexts {
-    ghost use Rattle.lt_world.specs.TextRuns.{Fetches, Fetches-same, Fetches-more};
+    ghost use Rattle.lt_world.specs.TextRuns.{TextsLater, TextsLater-same, TextsLater-more, TextsLater-faults};
 
     ghost tells = { Unit {0} };
 
@@ -155,11 +155,13 @@ impl Texts for MemTexts {
 
     ghost faults = { λ texts. texts.faults };
 
-    ghost later = { Fetches };
+    ghost later = { TextsLater };
 
-    ghost later_same = { Fetches-same };
+    ghost later_same = { TextsLater-same };
 
-    ghost later_later = { Fetches-more };
+    ghost later_later = { TextsLater-more };
+
+    ghost later_faults = { TextsLater-faults };
 
     fn fetch(&mut self, name: &[u8], max: u64) -> Fetched {
         self.fetch_next(name, max)

@@ -134,7 +134,8 @@ pub trait Net {
     /// The number of the next link: each link so far is below it.
     ghost links: { Self → ℕ };
 
-    /// The second net is what the first one may become.
+    /// The second net is what the first one may become by calls of this trait. What is later has failed as often or
+    /// more, waited as it had, and has no more events left.
     ghost later: { Self → Self → Type 0 };
 
     /// The next event. A link that arrives has a number that no link had before, so at 2^32 links none arrives.
@@ -220,4 +221,10 @@ pub trait Net {
     ghost later_same: { (net : Self) → later net net };
 
     ghost later_later: { (a b c : Self) → later a b → later b c → later a c };
+
+    ghost later_faults: { (a b : Self) → later a b → faults a ≤ faults b };
+
+    ghost later_wait_faults: { (a b : Self) → later a b → wait_faults b ≡ wait_faults a };
+
+    ghost later_left: { (a b : Self) → ends → later a b → left b ≤ left a };
 }

@@ -16,7 +16,7 @@ pub trait Source {
     /// How often a read has failed. It never falls.
     ghost faults: { Self → ℕ };
 
-    /// The second source is what the first may become.
+    /// The second source is what the first may become. What is later has failed as often or more.
     ghost later: { Self → Self → Type 0 };
 
     /// Reads once. A read of no byte into a buffer that is not empty is the end.
@@ -31,6 +31,8 @@ pub trait Source {
     ghost later_same: { (source : Self) → later source source };
 
     ghost later_later: { (a b c : Self) → later a b → later b c → later a c };
+
+    ghost later_faults: { (a b : Self) → later a b → faults a ≤ faults b };
 }
 
 /// Where output goes.
@@ -48,7 +50,7 @@ pub trait Sink {
     /// How often a write has failed. It never falls.
     ghost faults: { Self → ℕ };
 
-    /// The second sink is what the first may become.
+    /// The second sink is what the first may become. What is later has failed as often or more.
     ghost later: { Self → Self → Type 0 };
 
     /// Offers a piece once, and takes bytes from its front: at least one, where there is one.
@@ -63,4 +65,6 @@ pub trait Sink {
     ghost later_same: { (sink : Self) → later sink sink };
 
     ghost later_later: { (a b c : Self) → later a b → later b c → later a c };
+
+    ghost later_faults: { (a b : Self) → later a b → faults a ≤ faults b };
 }

@@ -47,7 +47,7 @@ pub trait Texts {
     /// How often a call has failed. It never falls.
     ghost faults: { Self → ℕ };
 
-    /// The second texts are what the first may become.
+    /// The second texts are what the first may become. What is later has failed as often or more.
     ghost later: { Self → Self → Type 0 };
 
     /// The whole text of this name, if it has at most `max` bytes.
@@ -63,4 +63,6 @@ pub trait Texts {
     ghost later_same: { (texts : Self) → later texts texts };
 
     ghost later_later: { (a b c : Self) → later a b → later b c → later a c };
+
+    ghost later_faults: { (a b : Self) → later a b → faults a ≤ faults b };
 }

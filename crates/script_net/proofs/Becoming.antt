@@ -15,7 +15,7 @@ use Rattle.script_net.specs.Calls.{some_taken}
 use Rattle.script_net.specs.Kept.{Kept, kept_at, no_kept}
 use Rattle.script_net.specs.Noted.{read_done, write_done}
 use Rattle.script_net.specs.Notes.{act_of, trace_of, told_of, fits, IsTold}
-use Rattle.script_net.specs.Views.{output_of, ending_of}
+use Rattle.lt_world.specs.Acts.{output_of, ending_of}
 use Rattle.script_net.specs.Told.{Told}
 use Rattle.script_net.proofs.Noting.{Becomes, Grows, begins_all, told_set}
 
@@ -56,63 +56,67 @@ is_closed kept ending acts taken =
 
 -- a read
 
-read_by : (fails ended : Bool) (bytes read : List ℕ) → Read read ≡ (if fails then Failed Reading else some_read bytes ended) → read ≡ bytes
-read_by true ended bytes read is = absurd (cc is)
-read_by false true [] read is = absurd (cc is)
-read_by false false [] read is = absurd (cc is)
-read_by false ended (byte ∷ bytes) read is = cc is
+record WasRead (asked size : ℕ) (read bytes : List ℕ) : Type 0 where
+  asked_is : asked ≡ size
+  read_is : read ≡ bytes
 
-record IsNoted (answer : Got) (kept : Kept) (buf : List ℕ) (at : ℕ) : Type 0 where
-  act : act_of (read_done answer at) kept ≡ read_act answer buf
-  fit : fits (read_done answer at) kept
+read_by : (fails ended : Bool) (asked size : ℕ) (bytes read : List ℕ) → Read asked read ≡ (if fails then Failed Reading else some_read size bytes ended) → WasRead asked size read bytes
+read_by true ended asked size bytes read is = absurd (cc is)
+read_by false true asked size [] read is = absurd (cc is)
+read_by false false asked size [] read is = absurd (cc is)
+read_by false ended asked size (byte ∷ bytes) read is = record { asked_is = cc is; read_is = cc is }
+
+record IsNoted (answer : Got) (kept : Kept) (buf : List ℕ) (size at : ℕ) : Type 0 where
+  act : act_of (read_done answer size at) kept ≡ read_act answer buf
+  fit : fits (read_done answer size at) kept
 
 read_noted : (answer : Got) (kept : Kept) (buf : List ℕ) (size at : ℕ) → length buf ≡ size → at ≡ kept.side.seen → at ≤ length kept.side.given → GotWithin answer size → read_act answer buf ≡ gives size kept.side
-    → IsNoted answer kept buf at
+    → IsNoted answer kept buf size at
 read_noted (got.Bytes n) kept buf size at whole is_seen within some act =
     let rest : List ℕ = drop kept.side.seen kept.side.given in
-    let read : take n buf ≡ take size rest = read_by kept.side.reads_fail kept.side.ended (take size rest) (take n buf) act in
+    let read : take n buf ≡ take size rest = (read_by kept.side.reads_fail kept.side.ended (length buf) size (take size rest) (take n buf) act).read_is in
     let count : n ≡ min size (length rest) = omega (arith, length-take n buf, length-take size rest, ap length read, some.1, whole) in
     let left : length rest ≡ length kept.side.given - kept.side.seen = length-drop kept.side.seen kept.side.given in
     record {
-      act = ap Read (rw is_seen (ap (λ k. take k rest) count ∙ take_min size rest ∙ sym read));
+      act = ap (λ (k : ℕ). Read k (take n (drop at kept.side.given))) (sym whole) ∙ ap (λ t. Read (length buf) t) (rw is_seen (ap (λ k. take k rest) count ∙ take_min size rest ∙ sym read));
       fit = omega (arith, count, left, is_seen, within);
     }
 read_noted got.End kept buf size at whole is_seen within some act = record { act = refl; fit = tt }
 read_noted got.NotYet kept buf size at whole is_seen within some act = record { act = refl; fit = tt }
 read_noted got.Failed kept buf size at whole is_seen within some act = record { act = refl; fit = tt }
 
-nothing_taken : (answer : Got) (at : ℕ) (kept : Kept) (acts : List Act) → output_of (act_of (read_done answer at) kept ∷ acts) ≡ output_of acts
-nothing_taken (got.Bytes n) at kept acts = refl
-nothing_taken got.End at kept acts = refl
-nothing_taken got.NotYet at kept acts = refl
-nothing_taken got.Failed at kept acts = refl
+nothing_taken : (answer : Got) (size at : ℕ) (kept : Kept) (acts : List Act) → output_of (act_of (read_done answer size at) kept ∷ acts) ≡ output_of acts
+nothing_taken (got.Bytes n) size at kept acts = refl
+nothing_taken got.End size at kept acts = refl
+nothing_taken got.NotYet size at kept acts = refl
+nothing_taken got.Failed size at kept acts = refl
 
-nothing_closed : (answer : Got) (at : ℕ) (kept : Kept) (acts : List Act) → ending_of (act_of (read_done answer at) kept ∷ acts) ≡ ending_of acts
-nothing_closed (got.Bytes n) at kept acts = refl
-nothing_closed got.End at kept acts = refl
-nothing_closed got.NotYet at kept acts = refl
-nothing_closed got.Failed at kept acts = refl
+nothing_closed : (answer : Got) (size at : ℕ) (kept : Kept) (acts : List Act) → ending_of (act_of (read_done answer size at) kept ∷ acts) ≡ ending_of acts
+nothing_closed (got.Bytes n) size at kept acts = refl
+nothing_closed got.End size at kept acts = refl
+nothing_closed got.NotYet size at kept acts = refl
+nothing_closed got.Failed size at kept acts = refl
 
 pub read_act_of : (answer : Got) (kept : Kept) (buf : List ℕ) (size at : ℕ) → length buf ≡ size → at ≡ kept.side.seen → at ≤ length kept.side.given → GotWithin answer size → read_act answer buf ≡ gives size kept.side
-    → act_of (read_done answer at) (record kept { side = with_read size kept.side }) ≡ read_act answer buf
+    → act_of (read_done answer size at) (record kept { side = with_read size kept.side }) ≡ read_act answer buf
 read_act_of answer kept buf size at whole is_seen within some act = same answer (read_noted answer kept buf size at whole is_seen within some act).act
   where
-    same : (answer : Got) → act_of (read_done answer at) kept ≡ read_act answer buf → act_of (read_done answer at) (record kept { side = with_read size kept.side }) ≡ read_act answer buf
+    same : (answer : Got) → act_of (read_done answer size at) kept ≡ read_act answer buf → act_of (read_done answer size at) (record kept { side = with_read size kept.side }) ≡ read_act answer buf
     same (got.Bytes n) is = is
     same got.End is = is
     same got.NotYet is = is
     same got.Failed is = is
 
 pub is_read : (answer : Got) (kept : Kept) (buf : List ℕ) (size at : ℕ) (acts : List Act) → length buf ≡ size → at ≡ kept.side.seen → at ≤ length kept.side.given → GotWithin answer size → read_act answer buf ≡ gives size kept.side
-    → kept.taken ≡ output_of acts → kept.ending ≡ ending_of acts → Becomes kept (read_done answer at) (record kept { side = with_read size kept.side }) acts
+    → kept.taken ≡ output_of acts → kept.ending ≡ ending_of acts → Becomes kept (read_done answer size at) (record kept { side = with_read size kept.side }) acts
 is_read answer kept buf size at acts whole is_seen within some act taken ending = record {
   grows = stays kept (with_read size kept.side) refl;
   fit = same answer (read_noted answer kept buf size at whole is_seen within some act).fit;
-  taken = taken ∙ sym (nothing_taken answer at (record kept { side = with_read size kept.side }) acts);
-  ending = ending ∙ sym (nothing_closed answer at (record kept { side = with_read size kept.side }) acts);
+  taken = taken ∙ sym (nothing_taken answer size at (record kept { side = with_read size kept.side }) acts);
+  ending = ending ∙ sym (nothing_closed answer size at (record kept { side = with_read size kept.side }) acts);
 }
   where
-    same : (answer : Got) → fits (read_done answer at) kept → fits (read_done answer at) (record kept { side = with_read size kept.side })
+    same : (answer : Got) → fits (read_done answer size at) kept → fits (read_done answer size at) (record kept { side = with_read size kept.side })
     same (got.Bytes n) is = is
     same got.End is = is
     same got.NotYet is = is

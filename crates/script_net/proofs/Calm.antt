@@ -102,14 +102,14 @@ begin_calm (step.Take name size count ∷ rest) game calm sound none = record { 
 
 -- the answers of reads and writes
 
-given_sound : (bytes : List ℕ) (ended : Bool) → is_failure (some_read bytes ended) ≡ false
-given_sound [] true = refl
-given_sound [] false = refl
-given_sound (byte ∷ bytes) ended = refl
+given_sound : (size : ℕ) (bytes : List ℕ) (ended : Bool) → is_failure (some_read size bytes ended) ≡ false
+given_sound size [] true = refl
+given_sound size [] false = refl
+given_sound size (byte ∷ bytes) ended = refl
 
-gives_by : (fails : Bool) (size : ℕ) (side : Side) → fails ≡ false → is_failure (if fails then Failed Reading else some_read (take size (unread side)) side.ended) ≡ false
+gives_by : (fails : Bool) (size : ℕ) (side : Side) → fails ≡ false → is_failure (if fails then Failed Reading else some_read size (take size (unread side)) side.ended) ≡ false
 gives_by true size side sound = absurd (cc (sound))
-gives_by false size side sound = given_sound (take size (unread side)) side.ended
+gives_by false size side sound = given_sound size (take size (unread side)) side.ended
 
 taken_sound : (n : ℕ) (bytes : List ℕ) → is_failure (some_taken n bytes) ≡ false
 taken_sound zero bytes = refl

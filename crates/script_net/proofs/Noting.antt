@@ -1,7 +1,7 @@
 -- Notes of a net: what they stand for stays as the links' bytes grow.
 use Rattle.std.proofs.Common.{◌≡◌, ℕ, zero, suc, Some, None, ◌+◌, ◌<◌, ◌≤◌, max, Bool, true, false, List, [], ◌∷◌, ◌++◌, length, take, drop, set, map, reverse, refl, ap, sym, subst, ◌∙◌, arith, append-nil, if◌then◌else◌, ◌==◌, length-append, length-drop}
 use Rattle.std.proofs.lemmas.Bool.Decides.{nat_tests}
-use Rattle.std.proofs.lemmas.List.{take-append-le, drop-append-le, map-append, reverse-append, get_or-set_same, get_or-set_other}
+use Rattle.std.proofs.lemmas.List.{take-append-le, drop-append-le, map-append, reverse-append, get_or-set_same, get_or-set_other, get_or_past}
 use Rattle.std.proofs.Math.ListN.{length-set}
 use Rattle.lt_world.specs.declared.net.Address.{Address}
 use Rattle.lt_world.specs.Trace.{Act, Entry, Accepted, Readable, Writable, Read, ReadEnd, NotYet, Failed, Wrote, Connect, Close, own, names, dials, link_bound, dial_bound, said}
@@ -10,7 +10,7 @@ use Rattle.script_net.specs.declared.notes.Done.TheVariants as done
 use Rattle.script_net.specs.declared.notes.Note.{Note}
 use Rattle.script_net.specs.Kept.{Kept, kept_at, fresh_kept, no_kept}
 use Rattle.script_net.specs.Notes.{act_of, entry_of, trace_of, fits, AreWithin, IsTold}
-use Rattle.script_net.specs.Views.{output_of, ending_of}
+use Rattle.lt_world.specs.Acts.{output_of, ending_of}
 
 abbrev pub Begins : List ℕ → List ℕ → Type 0
 Begins front whole = (more : List ℕ) × (whole ≡ front ++ more)
@@ -36,7 +36,7 @@ note_kept : (what : Done) (before after : Kept) → Grows before after → fits 
 note_kept (done.Accepted peer local) before after grows within = (refl, tt)
 note_kept done.Readable before after grows within = (refl, tt)
 note_kept done.Writable before after grows within = (refl, tt)
-note_kept (done.Read at len) before after grows within =
+note_kept (done.Read asked at len) before after grows within =
     (rw (grows.given.1, piece_kept at len before.side.given grows.given.0 within) refl, omega (arith, ap length grows.given.1, length-append before.side.given grows.given.0))
 note_kept done.ReadEnd before after grows within = (refl, tt)
 note_kept done.ReadNotYet before after grows within = (refl, tt)
@@ -114,7 +114,7 @@ no_dial : (what : Done) (kept : Kept) → dial_bound (act_of what kept) ≡ 0
 no_dial (done.Accepted peer local) kept = refl
 no_dial done.Readable kept = refl
 no_dial done.Writable kept = refl
-no_dial (done.Read at len) kept = refl
+no_dial (done.Read asked at len) kept = refl
 no_dial done.ReadEnd kept = refl
 no_dial done.ReadNotYet kept = refl
 no_dial done.ReadFailed kept = refl
@@ -164,7 +164,7 @@ undialled (Connect owner to None) link above = refl
 undialled (Accepted peer local) link above = refl
 undialled Readable link above = refl
 undialled Writable link above = refl
-undialled (Read bytes) link above = refl
+undialled (Read asked bytes) link above = refl
 undialled ReadEnd link above = refl
 undialled (NotYet way) link above = refl
 undialled (Failed way) link above = refl
@@ -201,9 +201,15 @@ nothing_taken : (t : Bool) (peer local : Address) (acts : List Act) → output_o
 nothing_taken true peer local acts = refl
 nothing_taken false peer local acts = refl
 
-nothing_closed : (t : Bool) (peer local : Address) (acts : List Act) → ending_of (if t then Accepted peer local ∷ acts else acts) ≡ ending_of acts
-nothing_closed true peer local acts = refl
-nothing_closed false peer local acts = refl
+nothing_closed : (t : Bool) (peer local : Address) (acts : List Act) → (t ≡ true → ending_of acts ≡ None) → ending_of (if t then Accepted peer local ∷ acts else acts) ≡ ending_of acts
+nothing_closed true peer local acts unclosed = sym (unclosed refl)
+nothing_closed false peer local acts unclosed = refl
+
+-- a link that is still to come has no ending
+unkept : (before : List Kept) (link : ℕ) → (length before == link) ≡ true → (kept_at link before).ending ≡ None
+unkept before link next =
+    let is : length before ≡ link = grind (arith, nat_tests, next) in
+    ap (λ (q : Kept). q.ending) (get_or_past before link no_kept (omega (arith, is)))
 
 abbrev arrival : ℕ → Address → Address → Note
 arrival link peer local = record { link = link; done = done.Accepted peer local }
@@ -215,7 +221,7 @@ told_push before notes peer local told few =
     told_next before (before ++ fresh_kept ∷ []) notes (arrival (length before) peer local) told (push_grows before) (omega (arith, len)) tt (omega (arith, len))
     (omega (arith, len, told.named))
     (λ link. field_push (λ q. q.taken) before link refl ∙ told.taken link ∙ sym (nothing_taken (length before == link) peer local (own link (trace_of before notes))))
-    (λ link. field_push (λ q. q.ending) before link refl ∙ told.ending link ∙ sym (nothing_closed (length before == link) peer local (own link (trace_of before notes))))
+    (λ link. field_push (λ q. q.ending) before link refl ∙ told.ending link ∙ sym (nothing_closed (length before == link) peer local (own link (trace_of before notes)) (λ next. sym (told.ending link) ∙ unkept before link next)))
 
 pub trace_push : (before : List Kept) (notes : List Note) (peer local : Address) → IsTold before notes
     → trace_of (before ++ fresh_kept ∷ []) (notes ++ arrival (length before) peer local ∷ []) ≡ said (length before) (Accepted peer local ∷ []) (trace_of before notes)

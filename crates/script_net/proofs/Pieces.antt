@@ -4,9 +4,11 @@ use Rattle.std.proofs.lemmas.Grind.{flat_map-append}
 use Rattle.std.proofs.lemmas.Bool.Decides.{nat_tests}
 use Rattle.lt_bytes.specs.Quoting.{quoted, quoted_byte}
 use Rattle.lt_world.specs.declared.fault.Fault.{Fault}
-use Rattle.lt_world.specs.Trace.{Entry, own}
-use Rattle.script_net.specs.Views.{output_of, ending_of}
+use Rattle.lt_world.specs.Trace.{Entry, own, link_bound}
+use Rattle.lt_world.specs.Acts.{output_of, ending_of}
+use Rattle.lt_world.proofs.ActLaws.{output-deeds, ending-deeds}
 use Rattle.script_net.specs.Reports.{Writes, GotFront, lines_below, line_of}
+use Rattle.script_net.specs.Laws.{EachHasItsLine}
 
 -- the front of a text is that of a longer one
 pub got_more : (old new text rest : List ℕ) → GotFront old new text → GotFront old new (text ++ rest)
@@ -64,3 +66,10 @@ lines_broke link links trace old mid new below so_far got =
     let more = below_more (suc link) links trace below in
     subst (λ (t : List ℕ). GotFront old new t) (sym more.1)
     (got_more old new (lines_below (suc link) trace) more.0 (got_then old mid new (lines_below link trace) (line_of link (ending_of (own link trace)) (output_of (own link trace))) so_far got))
+
+pub has_its_line : EachHasItsLine
+has_its_line trace link below =
+    let acts = own link trace in
+    let line : List ℕ = line_of link (ending_of acts) (output_of acts) in
+    let more = below_more (suc link) (link_bound trace) trace below in
+    (more.0, more.1 ∙ append_assoc (lines_below link trace) line more.0 ∙ (λ i. lines_below link trace ++ (line_of link (sym (ending-deeds acts) i) (sym (output-deeds acts) i) ++ more.0)))

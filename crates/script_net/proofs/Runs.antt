@@ -8,11 +8,11 @@ use Rattle.lt_script.specs.declared.script.Step.TheVariants as step
 use Rattle.script_net.specs.Letters.{letters}
 use Rattle.script_net.specs.Sides.{Side, side_at, no_side, fresh_side, unread, some_read, gives, with_read, with_bytes, with_end, with_failing_reads, with_failing_writes, with_close}
 use Rattle.script_net.specs.Steps.{allowed, change, skip, events_left, link_of}
-use Rattle.script_net.specs.Views.{input_of}
+use Rattle.lt_world.specs.Acts.{input_of}
 use Rattle.script_net.specs.Calls.{Game, Call, Next, Reads, Writes, Connects, Closes, start, after, begin, tell, takes, some_taken}
 use Rattle.script_net.specs.Plays.{played}
 use Rattle.script_net.specs.Laws.{LaterPlays, LaterGrows, GivenIsRead, NoneLeft}
-use Rattle.script_net.proofs.Turning.{skip_left, step_less}
+use Rattle.script_net.proofs.Turning.{after_left}
 
 pub plays_later : LaterPlays
 plays_later a b new later =
@@ -41,23 +41,12 @@ begin_extends (step.WriteFail name ∷ rest) game = (_ ∷ [], refl)
 begin_extends (step.Idle ∷ rest) game = ([], refl)
 begin_extends (step.Take name size count ∷ rest) game = (_ ∷ [], refl)
 
-begin_left : (steps : List Step) (game : Game) → events_left (begin steps game).left ≤ events_left steps
-begin_left [] game = le_refl 0
-begin_left (first ∷ rest) game = step_less first rest
-
 after_extends : (call : Call) (game : Game) → Extends game.trace (after call game).trace
 after_extends Next game = begin_extends (skip game.sides game.left) game
 after_extends (Reads link size) game = (_ ∷ [], refl)
 after_extends (Writes link bytes) game = (_ ∷ [], refl)
 after_extends (Connects owner to) game = (_ ∷ [], refl)
 after_extends (Closes link ending) game = (_ ∷ [], refl)
-
-after_left : (call : Call) (game : Game) → events_left (after call game).left ≤ events_left game.left
-after_left Next game = omega (arith, begin_left (skip game.sides game.left) game, skip_left game.sides game.left)
-after_left (Reads link size) game = le_refl (events_left game.left)
-after_left (Writes link bytes) game = le_refl (events_left game.left)
-after_left (Connects owner to) game = le_refl (events_left game.left)
-after_left (Closes link ending) game = le_refl (events_left game.left)
 
 played_grows : (calls : List Call) (game : Game) → Extends game.trace (played calls game).trace × (events_left (played calls game).left ≤ events_left game.left)
 played_grows [] game = (([], refl), le_refl (events_left game.left))
@@ -162,10 +151,10 @@ take_add (suc n) m [] = take_none m ∙ sym (take_none (suc n + m))
     take_none (suc k) = refl
 take_add (suc n) m (byte ∷ bytes) = let e : suc n + m ≡ suc (n + m) = omega arith in rw e (ap (λ t. byte ∷ t) (take_add n m bytes))
 
-given_input : (bytes : List ℕ) (ended : Bool) (acts : List Act) → input_of (some_read bytes ended ∷ acts) ≡ input_of acts ++ bytes
-given_input [] true acts = sym (append-nil (input_of acts))
-given_input [] false acts = sym (append-nil (input_of acts))
-given_input (byte ∷ bytes) ended acts = refl
+given_input : (size : ℕ) (bytes : List ℕ) (ended : Bool) (acts : List Act) → input_of (some_read size bytes ended ∷ acts) ≡ input_of acts ++ bytes
+given_input size [] true acts = sym (append-nil (input_of acts))
+given_input size [] false acts = sym (append-nil (input_of acts))
+given_input size (byte ∷ bytes) ended acts = refl
 
 read_front : (size : ℕ) (side : Side) (acts : List Act) → FrontRead side acts → FrontRead (with_read size side) (gives size side ∷ acts)
 read_front size side acts front = by side.reads_fail
@@ -176,12 +165,12 @@ read_front size side acts front = by side.reads_fail
     rest : List ℕ
     rest = unread side
 
-    by : (fails : Bool) → FrontRead (record side { seen = if fails then side.seen else side.seen + count }) ((if fails then Failed Reading else some_read (take size rest) side.ended) ∷ acts)
+    by : (fails : Bool) → FrontRead (record side { seen = if fails then side.seen else side.seen + count }) ((if fails then Failed Reading else some_read size (take size rest) side.ended) ∷ acts)
     by true = record { read = front.read; within = front.within }
     by false =
         let left : length rest ≡ length side.given - side.seen = length-drop side.seen side.given in
         record {
-          read = given_input (take size rest) side.ended acts ∙ ap (λ t. t ++ take size rest) front.read
+          read = given_input size (take size rest) side.ended acts ∙ ap (λ t. t ++ take size rest) front.read
               ∙ ap (λ t. take side.seen side.given ++ t) (sym (take_min size rest) ∙ ap (λ n. take (min size n) rest) left) ∙ take_add side.seen count side.given;
           within = omega (arith, front.within);
         }

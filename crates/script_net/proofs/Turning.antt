@@ -11,12 +11,8 @@ use Rattle.lt_script.specs.declared.script.Step.{Step}
 use Rattle.lt_script.specs.declared.script.Step.TheVariants as step
 use Rattle.script_net.specs.Sides.{Side, side_at, fresh_side}
 use Rattle.script_net.specs.Steps.{link_of, is_due, skip, event_of, sides_after, taker_of, less, events_left, lowered, rest_of}
-use Rattle.script_net.specs.Calls.{Game, Call, Next, Turns, answer_of, begin, after}
+use Rattle.script_net.specs.Calls.{Game, Call, Next, Reads, Writes, Connects, Closes, Turns, answer_of, begin, after}
 use Rattle.script_net.specs.Playing.{Playing, IsLater}
-
--- what some call makes of a net is later
-pub by_call : (call : Call) (a b : Playing) → b.script ≡ a.script → b.game ≡ after call a.game → IsLater a b
-by_call call a b same made = record { same = same; calls = call ∷ []; plays = made }
 
 -- a step of which some events were played does what the step does
 
@@ -105,16 +101,6 @@ skip_later played (first ∷ steps) rest sides same shorter = there (is_due firs
     there : (t : Bool) → is_due first sides ≡ t → (if t then first ∷ steps else skip sides steps) ≡ rest → skip sides (rest_of played (first ∷ steps)) ≡ rest_of 0 rest
     there true due same = absurd (omega (arith, ap length same))
     there false due same = skip_by false played first steps sides due ∙ same ∙ sym (rest_none rest)
-
--- after an event
-
-pub turned_later : (event : Event) (a b : Playing) → b.script ≡ a.script → Turns event a.game b.game → IsLater a b
-turned_later NoMemory a b same turns = record { same = same; calls = []; plays = turns }
-turned_later (Arrived link peer local) a b same turns = by_call Next a b same turns.1
-turned_later (Readable link) a b same turns = by_call Next a b same turns.1
-turned_later (Writable link) a b same turns = by_call Next a b same turns.1
-turned_later Idle a b same turns = by_call Next a b same turns.1
-turned_later Over a b same turns = by_call Next a b same turns.1
 
 -- what holds of the answer that is due, and of want of memory, holds of each answer
 
@@ -248,3 +234,35 @@ begin_fresh (first ∷ rest) game fresh = step_fresh first (length game.sides) g
 pub turned_fresh : (event : Event) (old new : Game) → Turns event old new → names (length old.sides) old.trace ≡ false → IsFresh event old.trace
 turned_fresh event old new turns =
     turned (λ e a b. names (length a.sides) a.trace ≡ false → IsFresh e a.trace) event old new (λ a h. tt) (λ a h. begin_fresh (skip a.sides a.left) a h) turns
+
+-- each call leaves no more events
+
+begin_left : (steps : List Step) (game : Game) → events_left (begin steps game).left ≤ events_left steps
+begin_left [] game = le_refl 0
+begin_left (first ∷ rest) game = step_less first rest
+
+pub after_left : (call : Call) (game : Game) → events_left (after call game).left ≤ events_left game.left
+after_left Next game = omega (arith, begin_left (skip game.sides game.left) game, skip_left game.sides game.left)
+after_left (Reads link size) game = le_refl (events_left game.left)
+after_left (Writes link bytes) game = le_refl (events_left game.left)
+after_left (Connects owner to) game = le_refl (events_left game.left)
+after_left (Closes link ending) game = le_refl (events_left game.left)
+
+-- what some call makes of a net is later
+pub by_call : (call : Call) (a b : Playing) → b.script ≡ a.script → b.game ≡ after call a.game → a.faults ≤ b.faults → IsLater a b
+by_call call a b same made more = record {
+  same = same;
+  calls = call ∷ [];
+  plays = made;
+  faults = more;
+  left = omega (arith, ap (λ (g : Game). events_left g.left) made, after_left call a.game);
+}
+
+-- and so is what an answer of `next` makes of it
+pub turned_later : (event : Event) (a b : Playing) → b.script ≡ a.script → Turns event a.game b.game → b.faults ≡ a.faults → IsLater a b
+turned_later NoMemory a b same turns kept = record { same = same; calls = []; plays = turns; faults = omega (arith, kept); left = omega (arith, ap (λ (g : Game). events_left g.left) turns) }
+turned_later (Arrived link peer local) a b same turns kept = by_call Next a b same turns.1 (omega (arith, kept))
+turned_later (Readable link) a b same turns kept = by_call Next a b same turns.1 (omega (arith, kept))
+turned_later (Writable link) a b same turns kept = by_call Next a b same turns.1 (omega (arith, kept))
+turned_later Idle a b same turns kept = by_call Next a b same turns.1 (omega (arith, kept))
+turned_later Over a b same turns kept = by_call Next a b same turns.1 (omega (arith, kept))

@@ -1,13 +1,14 @@
 -- What holds of scripts and of the nets that play them, by the definitions alone.
-use Rattle.std.specs.Prelude.{◌≡◌, ℕ, ◌≤◌, List, [], ◌++◌}
-use Rattle.lt_world.specs.Trace.{own, Extends}
+use Rattle.std.specs.Prelude.{◌≡◌, ℕ, ◌<◌, ◌≤◌, List, [], ◌++◌}
+use Rattle.lt_world.specs.Trace.{Entry, own, link_bound, Extends}
 use Rattle.lt_script.specs.declared.script.Step.{Step}
 use Rattle.script_net.specs.Sides.{side_at, unread}
 use Rattle.script_net.specs.Steps.{events_left}
-use Rattle.script_net.specs.Views.{input_of}
+use Rattle.lt_world.specs.Acts.{input_of, output_of, ending_of, deeds_of}
 use Rattle.script_net.specs.Calls.{Call, start}
 use Rattle.script_net.specs.Plays.{played, Plays}
 use Rattle.script_net.specs.Playing.{Playing, IsLater}
+use Rattle.script_net.specs.Reports.{report_of, lines_below, line_of}
 use Rattle.script_net.specs.Failing.{IsCalm, NoneFailed}
 
 -- what comes later than a net that was just loaded is a trace that its script plays
@@ -26,6 +27,11 @@ GivenIsRead = (steps : List Step) (calls : List Call) (link : ℕ)
 -- where no step makes a read or a write fail, none fails, whatever the calls
 abbrev pub CalmNeverFails : Type 0
 CalmNeverFails = (steps : List Step) (calls : List Call) → IsCalm steps → NoneFailed (played calls (start steps)).trace
+
+-- the report has a line for each link, after those of the links below it, which names the ending and the bytes of its deeds
+abbrev pub EachHasItsLine : Type 0
+EachHasItsLine = (trace : List Entry) (link : ℕ) → link < link_bound trace
+    → (rest : List ℕ) × (report_of trace ≡ lines_below link trace ++ (line_of link (ending_of (deeds_of (own link trace))) (output_of (deeds_of (own link trace))) ++ rest))
 
 -- where no event is left, no step is
 abbrev pub NoneLeft : Type 0

@@ -1,6 +1,5 @@
 pub mod Letters
 pub mod Sides
-pub mod Views
 pub mod Steps
 pub mod Calls
 pub mod Plays

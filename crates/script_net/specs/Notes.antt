@@ -6,7 +6,7 @@ use Rattle.script_net.specs.declared.notes.Done.TheVariants as done
 use Rattle.script_net.specs.declared.notes.Note.{Note}
 use Rattle.script_net.specs.declared.links.Links.TheInside.{Inside}
 use Rattle.script_net.specs.Kept.{Kept, kept_at}
-use Rattle.script_net.specs.Views.{output_of, ending_of}
+use Rattle.lt_world.specs.Acts.{output_of, ending_of}
 use Rattle.script_net.specs.Told.{Told}
 
 -- what a note says, of a link for which this is kept
@@ -14,7 +14,7 @@ abbrev pub act_of : Done → Kept → Act
 act_of (done.Accepted peer local) kept = Accepted peer local
 act_of done.Readable kept = Readable
 act_of done.Writable kept = Writable
-act_of (done.Read at len) kept = Read (take len (drop at kept.side.given))
+act_of (done.Read asked at len) kept = Read asked (take len (drop at kept.side.given))
 act_of done.ReadEnd kept = ReadEnd
 act_of done.ReadNotYet kept = NotYet Reading
 act_of done.ReadFailed kept = Failed Reading
@@ -40,7 +40,7 @@ told_of a = record {
 
 -- the bytes of a note are kept
 abbrev pub fits : Done → Kept → Type 0
-fits (done.Read at len) kept = at + len ≤ length kept.side.given
+fits (done.Read asked at len) kept = at + len ≤ length kept.side.given
 fits (done.Wrote offered at len) kept = at + len ≤ length kept.taken
 fits other kept = Unit {0}
 

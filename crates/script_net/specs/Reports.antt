@@ -6,7 +6,7 @@ use Rattle.lt_world.specs.Trace.{Entry, own, link_bound}
 use Rattle.lt_world.specs.declared.net.Ending.{Ending}
 use Rattle.lt_world.specs.declared.net.Ending.TheVariants as ending
 use Rattle.lt_world.specs.declared.fault.Fault.{Fault}
-use Rattle.script_net.specs.Views.{output_of, ending_of}
+use Rattle.lt_world.specs.Acts.{output_of, ending_of}
 
 -- how a link ended, or that it is open
 abbrev pub ending_name : Option Ending → List ℕ

@@ -30,13 +30,14 @@ side_at link sides = get_or sides link no_side
 abbrev pub unread : Side → List ℕ
 unread side = drop side.seen side.given
 
-abbrev pub some_read : List ℕ → Bool → Act
-some_read [] ended = if ended then ReadEnd else NotYet Reading
-some_read (byte ∷ bytes) ended = Read (byte ∷ bytes)
+-- these bytes, where so many were asked for; where there are none, the end or nothing yet
+abbrev pub some_read : ℕ → List ℕ → Bool → Act
+some_read size [] ended = if ended then ReadEnd else NotYet Reading
+some_read size (byte ∷ bytes) ended = Read size (byte ∷ bytes)
 
 -- the answer of a read: what can be read, up to the buffer, else the end, else nothing yet; where reads fail, none of it
 abbrev pub gives : ℕ → Side → Act
-gives size side = if side.reads_fail then Failed Reading else some_read (take size (unread side)) side.ended
+gives size side = if side.reads_fail then Failed Reading else some_read size (take size (unread side)) side.ended
 
 -- after a read
 abbrev pub with_read : ℕ → Side → Side

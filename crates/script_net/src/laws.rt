@@ -1,5 +1,5 @@
 //! Laws of scripts and of the nets that play them.
-ghost use Rattle.script_net.specs.Laws.{LaterPlays, LaterGrows, GivenIsRead, CalmNeverFails, NoneLeft};
+ghost use Rattle.script_net.specs.Laws.{LaterPlays, LaterGrows, GivenIsRead, CalmNeverFails, EachHasItsLine, NoneLeft};
 
 /// What comes later than a net that was just loaded has a trace that its script plays.
 pub fn what_is_later_is_played()
@@ -19,6 +19,11 @@ pub fn what_is_given_is_read()
 /// Where no line is `rfail` or `wfail`, no read and no write fails.
 pub fn no_failing_line_is_no_failure()
     ensures { CalmNeverFails }
+{}
+
+/// The line of a link in the report names the ending and the bytes of the link's deeds.
+pub fn each_link_has_its_line()
+    ensures { EachHasItsLine }
 {}
 
 /// Where no event is left, no step is.

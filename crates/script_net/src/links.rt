@@ -6,7 +6,7 @@ ghost use Rattle.lt_world.specs.Answers.{read_act, GotWithin};
 ghost use Rattle.script_net.specs.Sides.{side_at, gives, with_bytes, with_end, with_failing_reads, with_failing_writes, with_close, with_read, fresh_side};
 ghost use Rattle.script_net.specs.Steps.{change};
 ghost use Rattle.script_net.specs.Calls.{some_taken};
-ghost use Rattle.script_net.specs.Views.{output_of, ending_of};
+ghost use Rattle.lt_world.specs.Acts.{output_of, ending_of};
 ghost use Rattle.script_net.specs.Told.{no_links, Tells, Stays};
 
 use crate::notes::{Done, Note, read_done, write_done};
@@ -217,10 +217,11 @@ impl Links {
         ensures tells { Tells link (read_act result buf.new) (change link (with_read (length buf.old)) self.old.sides) 0 self.old self.new }
     {
         let at = self.ports[link as usize].seen();
+        let asked = buf.len();
         let got = read_at(&mut self.ports, link as usize, buf);
         self.notes.push_reserved(Note {
             link,
-            done: read_done(got, at),
+            done: read_done(got, asked, at),
         });
         got
     }

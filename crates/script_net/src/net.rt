@@ -166,7 +166,8 @@ fn count_read(got: Got, faults: u64) -> u64
 
 impl Net for ScriptNet {
     ghost use Rattle.script_net.specs.Playing.{Playing};
-    ghost use Rattle.script_net.specs.Later.{IsLater-same, IsLater-more};
+    ghost use Rattle.std.proofs.Common.{refl};
+    ghost use Rattle.script_net.specs.Later.{IsLater-same, IsLater-more, IsLater-faults, IsLater-left};
 
     ghost tells = { Unit {0} };
 
@@ -193,6 +194,12 @@ impl Net for ScriptNet {
     ghost later_same = { IsLater-same };
 
     ghost later_later = { IsLater-more };
+
+    ghost later_faults = { IsLater-faults };
+
+    ghost later_wait_faults = { λ a b later. refl };
+
+    ghost later_left = { λ a b ends later. IsLater-left a b later };
 
     /// Plays the next step whose link is open. A step without memory is not played.
     fn next(&mut self) -> Event

@@ -12,6 +12,7 @@ pub enum Done {
     Writable,
     /// The bytes stand in what the script gave, from here on.
     Read {
+        asked: usize,
         at: usize,
         len: usize,
     },
@@ -36,12 +37,12 @@ pub struct Note {
     pub done: Done,
 }
 
-/// The note of a read, which began here.
-pub fn read_done(got: Got, at: usize) -> Done
-    ensures { result ≡ read_done got at }
+/// The note of a read that asked for so many bytes and began here.
+pub fn read_done(got: Got, asked: usize, at: usize) -> Done
+    ensures { result ≡ read_done got asked at }
 {
     match got {
-        Got::Bytes(len) => Done::Read { at, len },
+        Got::Bytes(len) => Done::Read { asked, at, len },
         Got::End => Done::ReadEnd,
         Got::NotYet => Done::ReadNotYet,
         Got::Failed => Done::ReadFailed,

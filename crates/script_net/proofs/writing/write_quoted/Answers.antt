@@ -1,4 +1,4 @@
-use Rattle.std.proofs.Common.{◌≡◌, ◌++◌, ◌∙◌, sym, arith, rules, take-append-drop}
+use Rattle.std.proofs.Common.{◌≡◌, ◌++◌, ◌∙◌, sym, arith, take-append-drop}
 use Rattle.std.proofs.lemmas.Result.{err_from_is_err_and}
 use Rattle.lt_bytes.specs.Quoting.{quoted}
 use Rattle.script_net.proofs.Pieces.{quoted_broke, quoted_went}
@@ -21,5 +21,5 @@ loop-rest-preserved g c =
           let so_far = c.loop-rest.invariant.written told in
           quoted_went c.args.bytes.now so_far.0 c.loop-rest.rest.now c.split_at.result.0.now c.split_at.result.1.now _ _ _ so_far.1 cut so_far.2 (rw text at (c.in_ok-write_all.ensures.writes told));
       faults = omega (arith, c.loop-rest.invariant.faults, c.write_all.ensures.faults);
-      later = search rules;
+      later = g.met.S.Sink.later_later _ _ _ c.loop-rest.invariant.later c.write_all.ensures.later;
     }
