@@ -1,3 +1,4 @@
+//! Outside values of each function, and each call once with ample memory.
 use crate::{
     List, NoMemory, Number, Text, decimal, laws, lower, quoted, read_decimal, read_hex, same_word,
     trim,
@@ -5,64 +6,49 @@ use crate::{
 use std::alloc::{AllocError, Global};
 use std::test::Fail;
 
+// Whether digits are read as these numbers.
+fn reads(digits: &[u8], decimal: Number, hexadecimal: Number) -> bool {
+    read_decimal(digits) == decimal && read_hex(digits) == hexadecimal
+}
+
 #[test]
 fn digits_are_read_as_numbers(rt: HostRuntime) {
-    for (bytes, decimal, hexadecimal) in [
-        (b"".as_slice(), Number::NotANumber, Number::NotANumber),
-        (b"0", Number::Value(0), Number::Value(0)),
-        (b"0042", Number::Value(42), Number::Value(66)),
-        (b"ff", Number::NotANumber, Number::Value(255)),
-        (
-            b"FFFFFFFFFFFFFFFF",
-            Number::NotANumber,
-            Number::Value(u64::MAX),
-        ),
-        (
-            b"10000000000000000",
-            Number::Value(10_000_000_000_000_000),
-            Number::Overflow,
-        ),
-        (
-            b"18446744073709551615",
-            Number::Value(u64::MAX),
-            Number::Overflow,
-        ),
-        (b"18446744073709551616", Number::Overflow, Number::Overflow),
-        (
-            b"99999999999999999999x",
-            Number::NotANumber,
-            Number::NotANumber,
-        ),
-        (b"+1", Number::NotANumber, Number::NotANumber),
-        (b"g", Number::NotANumber, Number::NotANumber),
-    ] {
-        assert_eq!(rt; read_decimal(bytes), decimal, "{bytes:?}");
-        assert_eq!(rt; read_hex(bytes), hexadecimal, "{bytes:?}");
-    }
+    let none = Number::NotANumber;
+    let most = Number::Value(u64::MAX);
+    assert!(rt; reads(b"", none, none));
+    assert!(rt; reads(b"0", Number::Value(0), Number::Value(0)));
+    assert!(rt; reads(b"0042", Number::Value(42), Number::Value(66)));
+    assert!(rt; reads(b"ff", none, Number::Value(255)));
+    assert!(rt; reads(b"FFFFFFFFFFFFFFFF", none, most));
+    assert!(rt; reads(b"18446744073709551615", most, Number::Overflow));
+    assert!(rt; reads(b"18446744073709551616", Number::Overflow, Number::Overflow));
+    assert!(rt; reads(b"99999999999999999999x", none, none));
+    assert!(rt; reads(b"+1", none, none));
+    assert!(rt; reads(b"g", none, none));
+    assert_eq!(rt; read_hex(b"10000000000000000"), Number::Overflow);
+    assert_eq!(rt;
+        read_decimal(b"10000000000000000"),
+        Number::Value(10_000_000_000_000_000)
+    );
 }
 
 #[test]
 fn numbers_and_bytes_are_spelled(rt: HostRuntime) {
-    for (number, bytes) in [
-        (0, b"0".as_slice()),
-        (10, b"10"),
-        (u64::MAX, b"18446744073709551615"),
-    ] {
-        assert_eq!(rt; decimal(number).bytes(), bytes);
-    }
-    for (byte, bytes) in [
-        (b' ', b" ".as_slice()),
-        (b'~', b"~"),
-        (b'"', b"\\\""),
-        (b'\\', b"\\\\"),
-        (b'\r', b"\\r"),
-        (b'\n', b"\\n"),
-        (b'\t', b"\\x09"),
-        (0x7f, b"\\x7f"),
-        (0xff, b"\\xff"),
-    ] {
-        assert_eq!(rt; quoted(byte).bytes(), bytes);
-    }
+    assert_eq!(rt; decimal(0).bytes(), b"0".as_slice());
+    assert_eq!(rt; decimal(10).bytes(), b"10".as_slice());
+    assert_eq!(rt;
+        decimal(u64::MAX).bytes(),
+        b"18446744073709551615".as_slice()
+    );
+    assert_eq!(rt; quoted(b' ').bytes(), b" ".as_slice());
+    assert_eq!(rt; quoted(b'~').bytes(), b"~".as_slice());
+    assert_eq!(rt; quoted(b'"').bytes(), b"\\\"".as_slice());
+    assert_eq!(rt; quoted(b'\\').bytes(), b"\\\\".as_slice());
+    assert_eq!(rt; quoted(b'\r').bytes(), b"\\r".as_slice());
+    assert_eq!(rt; quoted(b'\n').bytes(), b"\\n".as_slice());
+    assert_eq!(rt; quoted(b'\t').bytes(), b"\\x09".as_slice());
+    assert_eq!(rt; quoted(0x7f).bytes(), b"\\x7f".as_slice());
+    assert_eq!(rt; quoted(0xff).bytes(), b"\\xff".as_slice());
 }
 
 #[test]
@@ -71,20 +57,12 @@ fn case_and_blanks_are_passed_over(rt: HostRuntime) {
         (lower(b'A'), lower(b'Z'), lower(b'['), lower(0xc4)),
         (b'a', b'z', b'[', 0xc4)
     );
-    for (a, b, same) in [
-        (b"Keep-Alive".as_slice(), b"keep-alive".as_slice(), true),
-        (b"close", b"closed", false),
-        (b"", b"", true),
-    ] {
-        assert_eq!(rt; same_word(a, b), same);
-    }
-    for (bytes, want) in [
-        (b" \t a b \t".as_slice(), b"a b".as_slice()),
-        (b" \t ", b""),
-        (b"\ra\n", b"\ra\n"),
-    ] {
-        assert_eq!(rt; trim(bytes), want);
-    }
+    assert!(rt; same_word(b"Keep-Alive", b"keep-alive"));
+    assert!(rt; !same_word(b"close", b"closed"));
+    assert!(rt; same_word(b"", b""));
+    assert_eq!(rt; trim(b" \t a b \t"), b"a b".as_slice());
+    assert_eq!(rt; trim(b" \t "), b"".as_slice());
+    assert_eq!(rt; trim(b"\ra\n"), b"\ra\n".as_slice());
 }
 
 #[test]

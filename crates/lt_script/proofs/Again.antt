@@ -5,7 +5,7 @@ use Rattle.lt_world.specs.declared.net.Address.{Address}
 use Rattle.lt_script.specs.declared.script.Name.{Name}
 use Rattle.lt_script.specs.declared.script.Step.TheVariants as step
 use Rattle.lt_script.specs.declared.script.ScriptFile.TheVariants as file
-use Rattle.lt_script.specs.declared.script.TheConstants.{MOST_NAME, MOST_TIME, MOST_FILL, MOST_POUR, MOST_TAKE, MOST_COUNT}
+use Rattle.lt_script.specs.declared.limits.TheConstants.{NAME_LIMIT, TIME_LIMIT, FILL_LIMIT, POUR_LIMIT, TAKE_LIMIT, COUNT_LIMIT}
 use Rattle.lt_script.specs.declared.lines.Line.{Line}
 use Rattle.lt_script.specs.declared.lines.Line.TheVariants.{Skip, File, Step}
 use Rattle.lt_script.specs.Fields.{digits_len, number_at, name_at, address_at, octet_at, end_at}
@@ -20,7 +20,7 @@ named_by gate number client = ap (λ g. let name : Name = record { gate = g; num
 name_again : (name : Name) (rest : List ℕ) → IsName name → digits_len rest ≡ 0 → name_at (name_text name ++ rest) ≡ Some (name, rest)
 unfolding name_at
 name_again name rest is stops =
-    rw (number_again 0 MOST_NAME name.number rest (omega arith) is.most (omega arith) stops)
+    rw (number_again 0 NAME_LIMIT name.number rest (omega arith) is.most (omega arith) stops)
     (ap (λ (n : Name). Some (n, rest)) (named_by name.gate name.number is.client))
 
 last_name : (name : Name) → IsName name → name_at (name_text name) ≡ Some (name, [])
@@ -65,7 +65,7 @@ data_again link text bytes line = rw line.spelled (rw (name_again link (codes " 
 pour_again : (link : Name) (size : ℕ) (bytes : List ℕ) → IsPour link size bytes → line_of bytes ≡ Some (Step (step.Pour link size))
 unfolding line_of plain_of pour_of
 pour_again link size bytes line =
-    rw line.spelled (rw (name_again link (codes " " ++ decimal size) line.is_name refl) (rw (last_number 1 MOST_POUR size line.some line.sized (omega arith)) refl))
+    rw line.spelled (rw (name_again link (codes " " ++ decimal size) line.is_name refl) (rw (last_number 1 POUR_LIMIT size line.some line.sized (omega arith)) refl))
 
 end_again : (link : Name) (bytes : List ℕ) → IsEnd link bytes → line_of bytes ≡ Some (Step (step.End link))
 unfolding line_of plain_of end_of
@@ -74,7 +74,7 @@ end_again link bytes line = rw line.spelled (rw (last_name link line.is_name) re
 ready_again : (link : Name) (count : ℕ) (bytes : List ℕ) → IsReady link count bytes → line_of bytes ≡ Some (Step (step.Ready link count))
 unfolding line_of plain_of ready_of
 ready_again link count bytes line =
-    rw line.spelled (rw (name_again link (codes " " ++ decimal count) line.is_name refl) (rw (last_number 1 MOST_COUNT count line.some line.counted (omega arith)) refl))
+    rw line.spelled (rw (name_again link (codes " " ++ decimal count) line.is_name refl) (rw (last_number 1 COUNT_LIMIT count line.some line.counted (omega arith)) refl))
 
 read_fail_again : (link : Name) (bytes : List ℕ) → IsReadFail link bytes → line_of bytes ≡ Some (Step (step.ReadFail link))
 unfolding line_of plain_of read_fail_of
@@ -92,22 +92,22 @@ take_again : (link : Name) (size count : ℕ) (bytes : List ℕ) → IsTake link
 unfolding line_of plain_of take_of
 take_again link size count bytes line =
     rw line.spelled (rw (name_again link (codes " " ++ (decimal size ++ (codes " " ++ decimal count))) line.is_name refl)
-    (rw (number_again 0 MOST_TAKE size (codes " " ++ decimal count) (omega arith) line.sized (omega arith) refl)
-    (rw (last_number 1 MOST_COUNT count line.some line.counted (omega arith)) refl)))
+    (rw (number_again 0 TAKE_LIMIT size (codes " " ++ decimal count) (omega arith) line.sized (omega arith) refl)
+    (rw (last_number 1 COUNT_LIMIT count line.some line.counted (omega arith)) refl)))
 
 file_again : (path : List ℕ) (time : ℕ) (text bytes : List ℕ) → IsFile path time text bytes → line_of bytes ≡ Some (File (file.Bytes path time text))
 unfolding line_of file_of
 file_again path time text bytes line =
     rw line.spelled (rw (quoted_again path line.named (codes " " ++ (decimal time ++ (codes " \"" ++ (line.quoted ++ codes "\"")))) line.is_named)
-    (rw (number_again 0 MOST_TIME time (codes " \"" ++ (line.quoted ++ codes "\"")) (omega arith) line.dated (omega arith) refl)
+    (rw (number_again 0 TIME_LIMIT time (codes " \"" ++ (line.quoted ++ codes "\"")) (omega arith) line.dated (omega arith) refl)
     (rw (quoted_again text line.quoted [] line.is_quoted) (rw line.rooted refl))))
 
 fill_again : (path : List ℕ) (time size : ℕ) (bytes : List ℕ) → IsFill path time size bytes → line_of bytes ≡ Some (File (file.Fill path time size))
 unfolding line_of fill_of
 fill_again path time size bytes line =
     rw line.spelled (rw (quoted_again path line.named (codes " " ++ (decimal time ++ (codes " " ++ decimal size))) line.is_named)
-    (rw (number_again 0 MOST_TIME time (codes " " ++ decimal size) (omega arith) line.dated (omega arith) refl)
-    (rw (last_number 0 MOST_FILL size (omega arith) line.sized (omega arith)) (rw line.rooted refl))))
+    (rw (number_again 0 TIME_LIMIT time (codes " " ++ decimal size) (omega arith) line.dated (omega arith) refl)
+    (rw (last_number 0 FILL_LIMIT size (omega arith) line.sized (omega arith)) (rw line.rooted refl))))
 
 dir_again : (path bytes : List ℕ) → IsDir path bytes → line_of bytes ≡ Some (File (file.Dir path))
 unfolding line_of dir_of

@@ -6,7 +6,7 @@ use Rattle.lt_script.specs.declared.script.Script.{Script}
 use Rattle.lt_script.specs.declared.script.ScriptError.{ScriptError}
 use Rattle.lt_script.specs.declared.script.ScriptError.TheVariants as error
 use Rattle.lt_script.specs.Lines.{line_of}
-use Rattle.lt_script.specs.declared.script.TheConstants.{MOST_BYTES}
+use Rattle.lt_script.specs.declared.limits.TheConstants.{SCRIPT_LIMIT}
 use Rattle.lt_script.specs.Texts.{in_front, lines_of}
 use Rattle.lt_script.specs.Scripts.{cut, with_first, with_line, script_from, script_in, is_head, script_of, joined, added, GivesRest, GivesScript}
 
@@ -80,7 +80,7 @@ pub script_headed : (bytes line next : List ℕ) → cut bytes ≡ Some (line, n
 script_headed bytes line next found head = script_cut bytes line next found ∙ ap (λ t. if t then script_from 2 (lines_of next).0 (lines_of next).1 else Err 1) head
 
 -- the answer for the lines after the first is that for the whole text
-pub given : (result : Result Script ScriptError) (bytes line next : List ℕ) → length bytes ≤ MOST_BYTES → cut bytes ≡ Some (line, next) → is_head line ≡ true
+pub given : (result : Result Script ScriptError) (bytes line next : List ℕ) → length bytes ≤ SCRIPT_LIMIT → cut bytes ≡ Some (line, next) → is_head line ≡ true
     → GivesRest result next → GivesScript result bytes
 given (Ok script) bytes line next short found head gives = (short, script_headed bytes line next found head ∙ gives)
 given (Err error.NoMemory) bytes line next short found head gives = short

@@ -7,7 +7,7 @@ use Rattle.lt_world.specs.Memory.{is_path}
 use Rattle.lt_script.specs.declared.script.Name.{Name}
 use Rattle.lt_script.specs.declared.script.Step.TheVariants as step
 use Rattle.lt_script.specs.declared.script.ScriptFile.TheVariants as file
-use Rattle.lt_script.specs.declared.script.TheConstants.{MOST_NAME, MOST_TIME, MOST_FILL, MOST_POUR, MOST_TAKE, MOST_COUNT}
+use Rattle.lt_script.specs.declared.limits.TheConstants.{NAME_LIMIT, TIME_LIMIT, FILL_LIMIT, POUR_LIMIT, TAKE_LIMIT, COUNT_LIMIT}
 use Rattle.lt_script.specs.declared.lines.Line.{Line}
 use Rattle.lt_script.specs.declared.lines.Line.TheVariants.{Skip, File, Step}
 use Rattle.lt_script.specs.declared.quoting.State.TheVariants.{Plain}
@@ -41,8 +41,8 @@ name_takes : (bytes : List ℕ) (x : Name × List ℕ) → name_at bytes ≡ Som
 unfolding name_at
 name_takes bytes x some =
     let r = bound (after (codes "c") bytes) _ x some in
-    let n = bound (number_at 0 MOST_NAME r.0) _ x r.2 in
-    let w = number_takes 0 MOST_NAME r.0 n.0 n.1 in
+    let n = bound (number_at 0 NAME_LIMIT r.0) _ x r.2 in
+    let w = number_takes 0 NAME_LIMIT r.0 n.0 n.1 in
     let same : (record { gate = false; number = n.0.0 }, n.0.1) ≡ x = same_Some _ _ n.2 in
     subst (λ (y : Name × List ℕ). ReadsName bytes y) same
     (record { is = record { client = refl; most = w.high }; spelled = after_takes (codes "c") bytes r.0 r.1 ∙ ap (λ t. codes "c" ++ t) w.spelled })
@@ -215,13 +215,13 @@ write_fail_takes bytes said some =
 pour_takes : (bytes : List ℕ) (said : Line) → pour_of bytes ≡ Some said → IsLine said (codes "pour " ++ bytes)
 unfolding pour_of
 pour_takes bytes said some =
-    let n = one_count 1 MOST_POUR (λ link size. Step (step.Pour link size)) bytes said some in
+    let n = one_count 1 POUR_LIMIT (λ link size. Step (step.Pour link size)) bytes said some in
     subst (λ (l : Line). IsLine l (codes "pour " ++ bytes)) n.says (record { is_name = n.is_name; some = n.low; sized = n.high; spelled = ap (λ r. codes "pour " ++ r) n.spelled })
 
 ready_takes : (bytes : List ℕ) (said : Line) → ready_of bytes ≡ Some said → IsLine said (codes "ready " ++ bytes)
 unfolding ready_of
 ready_takes bytes said some =
-    let n = one_count 1 MOST_COUNT (λ link count. Step (step.Ready link count)) bytes said some in
+    let n = one_count 1 COUNT_LIMIT (λ link count. Step (step.Ready link count)) bytes said some in
     subst (λ (l : Line). IsLine l (codes "ready " ++ bytes)) n.says (record { is_name = n.is_name; some = n.low; counted = n.high; spelled = ap (λ r. codes "ready " ++ r) n.spelled })
 
 idle_takes : (bytes : List ℕ) (said : Line) → ended bytes (Step step.Idle) ≡ Some said → IsLine said (codes "idle" ++ bytes)
@@ -235,11 +235,11 @@ take_takes bytes said some =
     let v0 = bound (name_at bytes) _ said some in
     let w0 = name_takes bytes v0.0 v0.1 in
     let v1 = bound (after (codes " ") v0.0.1) _ said v0.2 in
-    let v2 = bound (number_at 0 MOST_TAKE v1.0) _ said v1.2 in
-    let w2 = number_takes 0 MOST_TAKE v1.0 v2.0 v2.1 in
+    let v2 = bound (number_at 0 TAKE_LIMIT v1.0) _ said v1.2 in
+    let w2 = number_takes 0 TAKE_LIMIT v1.0 v2.0 v2.1 in
     let v3 = bound (after (codes " ") v2.0.1) _ said v2.2 in
-    let v4 = bound (number_at 1 MOST_COUNT v3.0) _ said v3.2 in
-    let w4 = number_takes 1 MOST_COUNT v3.0 v4.0 v4.1 in
+    let v4 = bound (number_at 1 COUNT_LIMIT v3.0) _ said v3.2 in
+    let w4 = number_takes 1 COUNT_LIMIT v3.0 v4.0 v4.1 in
     let e = ended_takes v4.0.1 (Step (step.Take v0.0.0 v2.0.0 v4.0.0)) said v4.2 in
     subst (λ (l : Line). IsLine l (codes "take " ++ bytes)) e.1 (record {
       is_name = w0.is;
@@ -257,8 +257,8 @@ file_takes bytes said some =
     let v0 = bound (unquote bytes Plain) _ said some in
     let w0 = quoted_takes bytes v0.0 v0.1 in
     let v1 = bound (after (codes " ") v0.0.1) _ said v0.2 in
-    let v2 = bound (number_at 0 MOST_TIME v1.0) _ said v1.2 in
-    let w2 = number_takes 0 MOST_TIME v1.0 v2.0 v2.1 in
+    let v2 = bound (number_at 0 TIME_LIMIT v1.0) _ said v1.2 in
+    let w2 = number_takes 0 TIME_LIMIT v1.0 v2.0 v2.1 in
     let v3 = bound (after (codes " \"") v2.0.1) _ said v2.2 in
     let v4 = bound (unquote v3.0 Plain) _ said v3.2 in
     let w4 = quoted_takes v3.0 v4.0 v4.1 in
@@ -282,11 +282,11 @@ fill_takes bytes said some =
     let v0 = bound (unquote bytes Plain) _ said some in
     let w0 = quoted_takes bytes v0.0 v0.1 in
     let v1 = bound (after (codes " ") v0.0.1) _ said v0.2 in
-    let v2 = bound (number_at 0 MOST_TIME v1.0) _ said v1.2 in
-    let w2 = number_takes 0 MOST_TIME v1.0 v2.0 v2.1 in
+    let v2 = bound (number_at 0 TIME_LIMIT v1.0) _ said v1.2 in
+    let w2 = number_takes 0 TIME_LIMIT v1.0 v2.0 v2.1 in
     let v3 = bound (after (codes " ") v2.0.1) _ said v2.2 in
-    let v4 = bound (number_at 0 MOST_FILL v3.0) _ said v3.2 in
-    let w4 = number_takes 0 MOST_FILL v3.0 v4.0 v4.1 in
+    let v4 = bound (number_at 0 FILL_LIMIT v3.0) _ said v3.2 in
+    let w4 = number_takes 0 FILL_LIMIT v3.0 v4.0 v4.1 in
     let path = path_by (is_path v0.0.0) (ended v4.0.1 (File (file.Fill v0.0.0 v2.0.0 v4.0.0))) said v4.2 in
     let e = ended_takes v4.0.1 (File (file.Fill v0.0.0 v2.0.0 v4.0.0)) said path.1 in
     subst (λ (l : Line). IsLine l (codes "fill \"" ++ bytes)) e.1 (record {

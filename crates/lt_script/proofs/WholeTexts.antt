@@ -6,7 +6,7 @@ use Rattle.lt_script.specs.declared.script.ScriptError.{ScriptError}
 use Rattle.lt_script.specs.declared.script.ScriptError.TheVariants as error
 use Rattle.lt_script.specs.Fields.{after}
 use Rattle.lt_script.specs.Lines.{line_of}
-use Rattle.lt_script.specs.declared.script.TheConstants.{MOST_BYTES}
+use Rattle.lt_script.specs.declared.limits.TheConstants.{SCRIPT_LIMIT}
 use Rattle.lt_script.specs.Scripts.{with_first, with_line, script_from, script_in, is_nothing, is_head, script_of, GivesScript}
 use Rattle.lt_script.specs.Laws.{OneScript}
 use Rattle.lt_script.specs.Texts.{lines_of, first, AreLines, gathered, Spells, IsBadAt, IsBadFrom, IsBadLine, OnLineError, IsRead, IsRefusedAt}
@@ -147,7 +147,7 @@ pub is_spelled : (result : Result Script ScriptError) (bytes : List ℕ) → Giv
 is_spelled (Ok script) bytes gives = script_takes bytes script gives.1
 is_spelled (Err e) bytes gives = tt
 
-pub is_read : (result : Result Script ScriptError) (bytes : List ℕ) (script : Script) → GivesScript result bytes → length bytes ≤ MOST_BYTES → Spells bytes script → IsRead result script
+pub is_read : (result : Result Script ScriptError) (bytes : List ℕ) (script : Script) → GivesScript result bytes → length bytes ≤ SCRIPT_LIMIT → Spells bytes script → IsRead result script
 is_read (Ok read) bytes script gives short spells = let again = script_again bytes script spells in let here = gives.1 in cc (again, here)
 is_read (Err error.NoMemory) bytes script gives short spells = tt
 is_read (Err error.TooLong) bytes script gives short spells = absurd (omega arith)
@@ -159,7 +159,7 @@ is_first (Err error.NoMemory) bytes gives = tt
 is_first (Err error.TooLong) bytes gives = tt
 is_first (Err (error.Line number)) bytes gives = script_bad bytes number gives.1
 
-pub is_refused : (result : Result Script ScriptError) (bytes : List ℕ) (bad : ℕ) → GivesScript result bytes → length bytes ≤ MOST_BYTES → IsBadLine bytes bad → IsRefusedAt result bad
+pub is_refused : (result : Result Script ScriptError) (bytes : List ℕ) (bad : ℕ) → GivesScript result bytes → length bytes ≤ SCRIPT_LIMIT → IsBadLine bytes bad → IsRefusedAt result bad
 is_refused (Ok read) bytes bad gives short is = no_bad_line bytes read bad (script_takes bytes read gives.1) is
 is_refused (Err error.NoMemory) bytes bad gives short is = tt
 is_refused (Err error.TooLong) bytes bad gives short is = absurd (omega arith)

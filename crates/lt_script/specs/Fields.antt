@@ -1,4 +1,4 @@
--- How the parts of a line are read from its front.
+-- For proofs alone: how the code reads the parts of a line from its front.
 use Rattle.std.specs.Prelude.{ℕ, Bool, false, ◌&&◌, List, [], ◌∷◌, length, take, drop, get_or, Option, Some, None, option_map, if◌then◌else◌, ◌==◌, nat_lt, nat_le, codes}
 use Rattle.std.specs.Char.{is_ascii_digit}
 use Rattle.std.specs.List.{prefix_len}
@@ -7,7 +7,7 @@ use Rattle.lt_bytes.specs.declared.numbers.Number.TheVariants.{Value}
 use Rattle.lt_bytes.specs.Numbers.{number_of}
 use Rattle.lt_world.specs.declared.net.Address.{Address}
 use Rattle.lt_script.specs.declared.script.Name.{Name}
-use Rattle.lt_script.specs.declared.script.TheConstants.{MOST_NAME}
+use Rattle.lt_script.specs.declared.limits.TheConstants.{NAME_LIMIT}
 use Rattle.lt_script.specs.Gives.{◌>>=◌}
 
 -- what follows these bytes
@@ -20,6 +20,7 @@ after (c ∷ front) (b ∷ bytes) = if b == c then after front bytes else None
 abbrev pub digits_len : List ℕ → ℕ
 digits_len bytes = prefix_len is_ascii_digit bytes
 
+-- more than one digit, of which the first is 0
 abbrev pub leads_zero : List ℕ → Bool
 leads_zero digits = nat_lt 1 (length digits) && (get_or digits 0 0 == 48)
 
@@ -28,6 +29,7 @@ abbrev pub within : ℕ → ℕ → Number → Option ℕ
 within least most (Value n) = if nat_le least n && nat_le n most then Some n else None
 within least most other = None
 
+-- the number that digits write, without a leading zero and between these bounds
 abbrev pub numeral_of : ℕ → ℕ → List ℕ → Option ℕ
 numeral_of least most digits = if leads_zero digits then None else within least most (number_of 10 digits)
 
@@ -40,7 +42,7 @@ number_at least most bytes =
 unfoldable pub name_at : List ℕ → Option (Name × List ℕ)
 name_at bytes = do
   rest ← after (codes "c") bytes
-  number ← number_at 0 MOST_NAME rest
+  number ← number_at 0 NAME_LIMIT rest
   Some (record { gate = false; number = number.0 }, number.1)
 
 -- a part of an address, and its dot

@@ -1,9 +1,10 @@
--- What a reader of a line gives.
+-- For proofs alone: what a reader of a line gives.
 use Rattle.std.specs.Prelude.{◌≡◌, Option, Some, None, option_and_then, Result, Ok, Err}
 use Rattle.lt_script.specs.declared.fields.LineError.{LineError}
 use Rattle.lt_script.specs.declared.fields.LineError.TheVariants as error
 
 infixl 10 ◌>>=◌
+-- one reader after another: what follows is read only where the first was
 abbrev pub ◌>>=◌ : {A B : Type 0} → Option A → (A → Option B) → Option B
 o >>= f = option_and_then f o
 

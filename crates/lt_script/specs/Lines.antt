@@ -1,9 +1,9 @@
--- How the lines of a script are read.
+-- For proofs alone: how the code reads the lines of a script.
 use Rattle.std.specs.Prelude.{ℕ, List, [], ◌∷◌, Option, Some, None, if◌then◌else◌, codes}
 use Rattle.lt_world.specs.Memory.{is_path}
 use Rattle.lt_script.specs.declared.script.Step.TheVariants as step
 use Rattle.lt_script.specs.declared.script.ScriptFile.TheVariants as file
-use Rattle.lt_script.specs.declared.script.TheConstants.{MOST_TIME, MOST_FILL, MOST_POUR, MOST_TAKE, MOST_COUNT}
+use Rattle.lt_script.specs.declared.limits.TheConstants.{TIME_LIMIT, FILL_LIMIT, POUR_LIMIT, TAKE_LIMIT, COUNT_LIMIT}
 use Rattle.lt_script.specs.declared.lines.Line.{Line}
 use Rattle.lt_script.specs.declared.lines.Line.TheVariants.{Skip, File, Step}
 use Rattle.lt_script.specs.declared.quoting.State.TheVariants.{Plain}
@@ -16,9 +16,11 @@ abbrev pub ended : List ℕ → Line → Option Line
 ended [] line = Some line
 ended (b ∷ bytes) line = None
 
+-- the line, if the path is one
 abbrev pub if_path : List ℕ → Option Line → Option Line
 if_path text line = if is_path text then line else None
 
+-- the rest of an `accept` line
 unfoldable pub accept_of : List ℕ → Option Line
 accept_of bytes = do
   peer ← address_at bytes
@@ -26,6 +28,7 @@ accept_of bytes = do
   local ← address_at gap
   ended local.1 (Step (step.Accept peer.0 local.0))
 
+-- the rest of a `data` line
 unfoldable pub data_of : List ℕ → Option Line
 data_of bytes = do
   link ← name_at bytes
@@ -33,62 +36,71 @@ data_of bytes = do
   text ← unquote quote Plain
   ended text.1 (Step (step.Bytes link.0 text.0))
 
+-- the rest of a `pour` line
 unfoldable pub pour_of : List ℕ → Option Line
 pour_of bytes = do
   link ← name_at bytes
   gap ← after (codes " ") link.1
-  size ← number_at 1 MOST_POUR gap
+  size ← number_at 1 POUR_LIMIT gap
   ended size.1 (Step (step.Pour link.0 size.0))
 
+-- the rest of an `end` line
 unfoldable pub end_of : List ℕ → Option Line
 end_of bytes = do
   link ← name_at bytes
   ended link.1 (Step (step.End link.0))
 
+-- the rest of a `ready` line
 unfoldable pub ready_of : List ℕ → Option Line
 ready_of bytes = do
   link ← name_at bytes
   gap ← after (codes " ") link.1
-  count ← number_at 1 MOST_COUNT gap
+  count ← number_at 1 COUNT_LIMIT gap
   ended count.1 (Step (step.Ready link.0 count.0))
 
+-- the rest of an `rfail` line
 unfoldable pub read_fail_of : List ℕ → Option Line
 read_fail_of bytes = do
   link ← name_at bytes
   ended link.1 (Step (step.ReadFail link.0))
 
+-- the rest of a `take` line
 unfoldable pub take_of : List ℕ → Option Line
 take_of bytes = do
   link ← name_at bytes
   gap ← after (codes " ") link.1
-  size ← number_at 0 MOST_TAKE gap
+  size ← number_at 0 TAKE_LIMIT gap
   gap ← after (codes " ") size.1
-  count ← number_at 1 MOST_COUNT gap
+  count ← number_at 1 COUNT_LIMIT gap
   ended count.1 (Step (step.Take link.0 size.0 count.0))
 
+-- the rest of a `wfail` line
 unfoldable pub write_fail_of : List ℕ → Option Line
 write_fail_of bytes = do
   link ← name_at bytes
   ended link.1 (Step (step.WriteFail link.0))
 
+-- the rest of a `file` line, from its path on
 unfoldable pub file_of : List ℕ → Option Line
 file_of bytes = do
   path ← unquote bytes Plain
   gap ← after (codes " ") path.1
-  time ← number_at 0 MOST_TIME gap
+  time ← number_at 0 TIME_LIMIT gap
   quote ← after (codes " \"") time.1
   text ← unquote quote Plain
   if_path path.0 (ended text.1 (File (file.Bytes path.0 time.0 text.0)))
 
+-- the rest of a `fill` line, from its path on
 unfoldable pub fill_of : List ℕ → Option Line
 fill_of bytes = do
   path ← unquote bytes Plain
   gap ← after (codes " ") path.1
-  time ← number_at 0 MOST_TIME gap
+  time ← number_at 0 TIME_LIMIT gap
   gap ← after (codes " ") time.1
-  size ← number_at 0 MOST_FILL gap
+  size ← number_at 0 FILL_LIMIT gap
   if_path path.0 (ended size.1 (File (file.Fill path.0 time.0 size.0)))
 
+-- the rest of a `dir` line, from its path on
 unfoldable pub dir_of : List ℕ → Option Line
 dir_of bytes = do
   path ← unquote bytes Plain
@@ -112,6 +124,7 @@ plain_of line =
     (on (after (codes "idle") line) (λ rest. ended rest (Step step.Idle))
     (ended line Skip))))))))
 
+-- what a line says, if it is one of the grammar
 unfoldable pub line_of : List ℕ → Option Line
 line_of line =
     on (after (codes "#") line) (λ rest. Some Skip)

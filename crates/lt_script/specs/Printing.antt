@@ -1,4 +1,4 @@
--- A script as text.
+-- A script as text (README.md of this crate, 'The format').
 use Rattle.std.specs.Prelude.{List, ℕ, ◌++◌, flat_map, codes}
 use Rattle.std.specs.Fmt.{decimal}
 use Rattle.lt_bytes.specs.Quoting.{quoted}
@@ -31,9 +31,11 @@ step_text step.Idle = codes "idle"
 abbrev pub with_feed : List ℕ → List ℕ
 with_feed line = line ++ codes "\n"
 
+-- the lines of the files
 abbrev pub printed_files : List ScriptFile → List ℕ
 printed_files files = flat_map (λ f. with_feed (file_text f)) files
 
+-- the lines of the steps
 abbrev pub printed_steps : List Step → List ℕ
 printed_steps steps = flat_map (λ s. with_feed (step_text s)) steps
 

@@ -1,4 +1,4 @@
--- The grammar of a script's text.
+-- The grammar of a script's text (README.md of this crate, 'The format').
 use Rattle.std.specs.Prelude.{◌≡◌, ℕ, ◌+◌, ◌<◌, List, [], ◌∷◌, length, ◌⊎◌, codes, Result, Ok, Err, if◌then◌else◌, ◌==◌}
 use Rattle.lt_script.specs.declared.script.Script.{Script}
 use Rattle.lt_script.specs.declared.script.ScriptError.{ScriptError}
@@ -7,6 +7,7 @@ use Rattle.lt_script.specs.declared.lines.Line.{Line}
 use Rattle.lt_script.specs.declared.lines.Line.TheVariants.{Skip, File, Step}
 use Rattle.lt_script.specs.Grammar.{IsLine}
 
+-- a byte in front of the first line
 abbrev pub in_front : ℕ → List (List ℕ) × List ℕ → List (List ℕ) × List ℕ
 in_front b ([], last) = ([], b ∷ last)
 in_front b ((line ∷ lines), last) = ((b ∷ line) ∷ lines, last)
@@ -16,6 +17,7 @@ abbrev pub lines_of : List ℕ → List (List ℕ) × List ℕ
 lines_of [] = ([], [])
 lines_of (b ∷ bytes) = if b == 10 then ([] ∷ (lines_of bytes).0, (lines_of bytes).1) else in_front b (lines_of bytes)
 
+-- the bytes of each line say the item
 abbrev pub AreLines : List (List ℕ) → List Line → Type 0
 AreLines [] [] = Unit {0}
 AreLines (line ∷ lines) (item ∷ items) = IsLine item line × AreLines lines items
@@ -40,6 +42,7 @@ pub record Spells (bytes : List ℕ) (script : Script) : Type 0 where
   pub each : AreLines lines items
   pub gives : script ≡ gathered items
 
+-- the line is outside the grammar
 abbrev pub NoLine : List ℕ → Type 0
 NoLine line = (item : Line) → IsLine item line → ⊥
 
@@ -48,6 +51,7 @@ abbrev pub IsBadAt : ℕ → List (List ℕ) → List ℕ → ℕ → Type 0
 IsBadAt number [] last bad = (bad ≡ number) × (0 < length last)
 IsBadAt number (line ∷ lines) last bad = ((bad ≡ number) × NoLine line) ⊎ (((item : Line) × IsLine item line) × IsBadAt (number + 1) lines last bad)
 
+-- the first line of these outside the grammar, where the first of all is fixed
 abbrev pub IsBadFrom : List (List ℕ) → List ℕ → ℕ → Type 0
 IsBadFrom [] last bad = bad ≡ 1
 IsBadFrom (head ∷ lines) last bad = ((bad ≡ 1) × (head ≡ codes "lighttpd-script 1" → ⊥)) ⊎ ((head ≡ codes "lighttpd-script 1") × IsBadAt 2 lines last bad)
@@ -61,6 +65,7 @@ abbrev pub OnLineError : ScriptError → (ℕ → Type 0) → Type 0
 OnLineError (error.Line number) P = P number
 OnLineError other P = Unit {0}
 
+-- the refusal says that memory ran out
 abbrev pub IsWantOfMemory : ScriptError → Type 0
 IsWantOfMemory error.NoMemory = Unit {0}
 IsWantOfMemory other = ⊥

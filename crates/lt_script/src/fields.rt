@@ -3,7 +3,8 @@ ghost use Rattle.std.specs.Prelude.{◌≡◌, ◌≤◌, length, option_map, If
 ghost use Rattle.std.specs.Option.{option_copied};
 ghost use Rattle.lt_script.specs.Fields.{after, digits_len, leads_zero, numeral_of, number_at, name_at, address_at, octet_at, end_at};
 
-use crate::script::{MOST_NAME, Name};
+use crate::limits::NAME_LIMIT;
+use crate::script::Name;
 use lt_bytes::{Number, read_decimal};
 use lt_world::Address;
 
@@ -73,7 +74,7 @@ pub fn name_at(bytes: &[u8]) -> Option<(Name, &[u8])>
     ensures { option_map (λ x. (x.0, x.1.now)) result ≡ name_at bytes.now }
 {
     let rest = after(b"c", bytes)?;
-    let (number, rest) = number_at(0, MOST_NAME, rest)?;
+    let (number, rest) = number_at(0, NAME_LIMIT, rest)?;
     let name = Name {
         gate: false,
         number: number as u32,

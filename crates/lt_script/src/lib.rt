@@ -6,15 +6,17 @@
 
 mod fields;
 pub mod laws;
+mod limits;
 mod lines;
 mod parse;
 mod printing;
 mod quoting;
 mod script;
 
+pub use limits::SCRIPT_LIMIT;
 pub use parse::parse_script;
 pub use printing::print_script;
-pub use script::{MOST_BYTES, Name, Script, ScriptError, ScriptFile, Step};
+pub use script::{Name, Script, ScriptError, ScriptFile, Step};
 
 #[cfg(test)]
 mod tests;

@@ -5,8 +5,9 @@ ghost use Rattle.lt_script.specs.Gives.{Gives};
 ghost use Rattle.lt_script.specs.Lines.{ended, accept_of, data_of, pour_of, end_of, ready_of, read_fail_of, take_of, write_fail_of, file_of, fill_of, dir_of, plain_of, line_of};
 
 use crate::fields::{LineError, address_at, after, name_at, number_at};
+use crate::limits::{COUNT_LIMIT, FILL_LIMIT, POUR_LIMIT, TAKE_LIMIT, TIME_LIMIT};
 use crate::quoting::text_at;
-use crate::script::{MOST_COUNT, MOST_FILL, MOST_POUR, MOST_TAKE, MOST_TIME, ScriptFile, Step};
+use crate::script::{ScriptFile, Step};
 use std::alloc::Global;
 
 /// What a line says.
@@ -122,7 +123,7 @@ fn pour_of(bytes: &[u8]) -> Option<Line>
 {
     let (link, rest) = name_at(bytes)?;
     let rest = after(b" ", rest)?;
-    let (size, rest) = number_at(1, MOST_POUR, rest)?;
+    let (size, rest) = number_at(1, POUR_LIMIT, rest)?;
     let step = Step::Pour {
         link,
         size: size as u32,
@@ -144,7 +145,7 @@ fn ready_of(bytes: &[u8]) -> Option<Line>
 {
     let (link, rest) = name_at(bytes)?;
     let rest = after(b" ", rest)?;
-    let (count, rest) = number_at(1, MOST_COUNT, rest)?;
+    let (count, rest) = number_at(1, COUNT_LIMIT, rest)?;
     let step = Step::Ready {
         link,
         count: count as u32,
@@ -166,9 +167,9 @@ fn take_of(bytes: &[u8]) -> Option<Line>
 {
     let (link, rest) = name_at(bytes)?;
     let rest = after(b" ", rest)?;
-    let (size, rest) = number_at(0, MOST_TAKE, rest)?;
+    let (size, rest) = number_at(0, TAKE_LIMIT, rest)?;
     let rest = after(b" ", rest)?;
-    let (count, rest) = number_at(1, MOST_COUNT, rest)?;
+    let (count, rest) = number_at(1, COUNT_LIMIT, rest)?;
     let step = Step::Take {
         link,
         size: size as u32,
@@ -193,7 +194,7 @@ fn file_of(alloc: Global, bytes: &[u8]) -> Result<Line, LineError>
     let Some(rest) = after(b" ", rest) else {
         return Err(LineError::Bad);
     };
-    let Some((time, rest)) = number_at(0, MOST_TIME, rest) else {
+    let Some((time, rest)) = number_at(0, TIME_LIMIT, rest) else {
         return Err(LineError::Bad);
     };
     let Some(rest) = after(b" \"", rest) else {
@@ -214,13 +215,13 @@ fn fill_of(alloc: Global, bytes: &[u8]) -> Result<Line, LineError>
     let Some(rest) = after(b" ", rest) else {
         return Err(LineError::Bad);
     };
-    let Some((time, rest)) = number_at(0, MOST_TIME, rest) else {
+    let Some((time, rest)) = number_at(0, TIME_LIMIT, rest) else {
         return Err(LineError::Bad);
     };
     let Some(rest) = after(b" ", rest) else {
         return Err(LineError::Bad);
     };
-    let Some((size, rest)) = number_at(0, MOST_FILL, rest) else {
+    let Some((size, rest)) = number_at(0, FILL_LIMIT, rest) else {
         return Err(LineError::Bad);
     };
     if !is_path(path.bytes()) {

@@ -6,8 +6,9 @@ ghost use Rattle.lt_script.specs.Printing.{printed};
 ghost use Rattle.lt_script.specs.declared.script.Script.{Script};
 
 use crate::fields::{LineError, after};
+use crate::limits::SCRIPT_LIMIT;
 use crate::lines::{Line, line_of};
-use crate::script::{MOST_BYTES, Script, ScriptError};
+use crate::script::{Script, ScriptError};
 use lt_bytes::{List, NoMemory};
 use std::alloc::Global;
 
@@ -15,15 +16,15 @@ use std::alloc::Global;
 pub fn parse_script(alloc: Global, bytes: &[u8]) -> Result<Script, ScriptError>
     // A script comes only for a text that spells it, and for each such text it comes.
     ensures spelled { IfOk result (λ script. Spells bytes.now script) }
-    ensures read { (script : Script) → length bytes.now ≤ MOST_BYTES → Spells bytes.now script → IsRead result script }
+    ensures read { (script : Script) → length bytes.now ≤ SCRIPT_LIMIT → Spells bytes.now script → IsRead result script }
 
     // What was printed of a script that came from some text gives it again.
-    ensures again { (text : List ℕ) (script : Script) → length text ≤ MOST_BYTES → Spells text script → bytes.now ≡ printed script → IsRead result script }
+    ensures again { (text : List ℕ) (script : Script) → length text ≤ SCRIPT_LIMIT → Spells text script → bytes.now ≡ printed script → IsRead result script }
 
     // A line is named only where it is the first outside the grammar, and then it is named.
     ensures line { IfErr result (λ e. OnLineError e (IsBadLine bytes.now)) }
-    ensures refused { (number : ℕ) → length bytes.now ≤ MOST_BYTES → IsBadLine bytes.now number → IsRefusedAt result number }
-    ensures too_long { (result ≡ Err ScriptError.TooLong) ↔ (MOST_BYTES < length bytes.now) }
+    ensures refused { (number : ℕ) → length bytes.now ≤ SCRIPT_LIMIT → IsBadLine bytes.now number → IsRefusedAt result number }
+    ensures too_long { (result ≡ Err ScriptError.TooLong) ↔ (SCRIPT_LIMIT < length bytes.now) }
 {
     read_all(alloc, bytes)
 }
@@ -32,7 +33,7 @@ pub fn parse_script(alloc: Global, bytes: &[u8]) -> Result<Script, ScriptError>
 fn read_all(alloc: Global, bytes: &[u8]) -> Result<Script, ScriptError>
     ensures { GivesScript result bytes.now }
 {
-    if bytes.len() > MOST_BYTES {
+    if bytes.len() > SCRIPT_LIMIT {
         return Err(ScriptError::TooLong);
     }
     match cut(bytes) {
@@ -41,7 +42,7 @@ fn read_all(alloc: Global, bytes: &[u8]) -> Result<Script, ScriptError>
             if !is_head(head) {
                 return Err(ScriptError::Line { number: 1 });
             }
-            rest_of(alloc, rest)
+            read_lines(alloc, rest)
         }
     }
 }
@@ -69,8 +70,8 @@ fn cut(bytes: &[u8]) -> Option<(&[u8], &[u8])>
 }
 
 // The lines after the first.
-fn rest_of(alloc: Global, bytes: &[u8]) -> Result<Script, ScriptError>
-    requires { length bytes.now ≤ MOST_BYTES }
+fn read_lines(alloc: Global, bytes: &[u8]) -> Result<Script, ScriptError>
+    requires { length bytes.now ≤ SCRIPT_LIMIT }
     ensures { GivesRest result bytes.now }
 {
     let mut script = Script {

@@ -3,27 +3,6 @@ use lt_bytes::{List, Text};
 use lt_world::Address;
 use thiserror::Error;
 
-/// The longest script that is read, in bytes.
-pub const MOST_BYTES: usize = 16_777_216;
-
-/// The greatest number in a link's name.
-pub const MOST_NAME: u64 = 1_000_000;
-
-/// The greatest time of a file, in seconds since 1970: the end of the year 9999.
-pub const MOST_TIME: u64 = 253_402_300_799;
-
-/// The longest file that a `fill` line makes, in bytes.
-pub const MOST_FILL: u64 = 16_777_216;
-
-/// The most bytes that a `pour` line gives.
-pub const MOST_POUR: u64 = 8_388_608;
-
-/// The most bytes that one `take` lets a write take.
-pub const MOST_TAKE: u64 = 65_536;
-
-/// The most events of one line.
-pub const MOST_COUNT: u64 = 4_096;
-
 /// What the lines of a script say: its files, and its steps, each kind in the order of the lines.
 #[derive(Debug, Drop)]
 pub struct Script {
@@ -80,7 +59,7 @@ pub enum ScriptError {
     /// The first line that is outside the grammar, counted from 1.
     #[error("script line {number}")]
     Line { number: u32 },
-    /// The text is longer than `MOST_BYTES`.
+    /// The text is longer than `SCRIPT_LIMIT`.
     #[error("the script is too long")]
     TooLong,
     #[error("out of memory")]

@@ -9,7 +9,7 @@ use Rattle.lt_world.specs.declared.fault.Fault.{Fault}
 use Rattle.lt_world.specs.declared.net.Owner.{Owner}
 use Rattle.lt_world.specs.Disk.{Table, Disk, with_file, released}
 use Rattle.lt_world.specs.FileAnswers.{Opens}
-use Rattle.lt_world.specs.FileRuns.{bytes_of, after_find, after_open, after_read, after_release, FindPlanned, OpenPlanned, ReadPlanned, OpensAt, Leads, same, finds, opens, reads, releases, IsUnplanned}
+use Rattle.lt_world.specs.FileRuns.{file_bytes, after_find, after_open, after_read, after_release, FindPlanned, OpenPlanned, ReadPlanned, OpensAt, Leads, same, finds, opens, reads, releases, IsUnplanned}
 use Rattle.lt_world.specs.Memory.{Stored, tree_of, table_by, disk_of}
 use Rattle.lt_world.specs.Plans.{Planned, is_due}
 use Rattle.lt_world.proofs.Slotted.{table_fresh, table-push, table-closes}
@@ -36,13 +36,13 @@ pub opens_disk : (a b : Stored) (answer : Opened) (owner : Owner) (path : List �
 opens_disk a b opening.NoMemory owner path is right = ap disk_of is
 opens_disk a b opening.Failed owner path is right = ap disk_of is
 opens_disk a b (opening.File file size time) owner path is right =
-    let bytes : bytes_of (tree_of a path) ≡ right.0 = ap bytes_of right.1 in
+    let bytes : file_bytes (tree_of a path) ≡ right.0 = ap file_bytes right.1 in
     record {
       bytes = right.0;
       is_there = right.1;
       has_size = right.2;
       fresh = ap (table_by a.opened) right.3 ∙ table_fresh a.opened;
-      after_is = ap disk_of is ∙ with_table (disk_of (after_open (opening.File file size time) owner path a)) _ (table-push a.opened (bytes_of (tree_of a path)) ∙ (λ i. with_file (sym right.3 i) (bytes i) (table_by a.opened)));
+      after_is = ap disk_of is ∙ with_table (disk_of (after_open (opening.File file size time) owner path a)) _ (table-push a.opened (file_bytes (tree_of a path)) ∙ (λ i. with_file (sym right.3 i) (bytes i) (table_by a.opened)));
     }
 
 pub undue : (plan : Planned) → plan.fails ≡ [] → is_due plan ≡ true → ⊥

@@ -9,7 +9,7 @@ use Rattle.lt_world.specs.Disk.{Node, Missing, ends_in_slash}
 use Rattle.lt_world.specs.Memory.{Placed, last_at, seen_at, as_directory, without_slash, tree_by, with_node}
 use Rattle.lt_world.specs.PlaceView.{placed_by}
 use Rattle.lt_world.proofs.Ends.{one_more}
-use Rattle.lt_world.specs.Standing.{node_of, Grows}
+use Rattle.lt_world.specs.Standing.{node_of, AddsPlaces}
 
 -- the places of `PlaceView` follow the list's own operations
 pub placed-push : (places : List Place) (place : Place) → placed_by (places ++ place ∷ []) ≡ placed_by places ++ record { path = place.path; node = node_of place.standing } ∷ []
@@ -103,10 +103,10 @@ finds path places i place node some below is same so_far =
     ∙ ap (λ b. if b then node_of place.standing else last_at path (placed_by (take (i - 1) places)) Missing) same
 
 -- what was added is taken off again
-pub grown_back : (before after : List Placed) → Grows before after → take (length before) after ≡ before
+pub grown_back : (before after : List Placed) → AddsPlaces before after → take (length before) after ≡ before
 grown_back before after grows = ap (λ l. take (length before) l) grows.1 ∙ take-append_seam before grows.0
 
-pub grows_more : (a b c : List Placed) → Grows a b → Grows b c → Grows a c
+pub grows_more : (a b c : List Placed) → AddsPlaces a b → AddsPlaces b c → AddsPlaces a c
 grows_more a b c ab bc = (ab.0 ++ bc.0, bc.1 ∙ ap (λ l. l ++ bc.0) ab.1 ∙ append_assoc a ab.0 bc.0)
 
 pub slash_names : (places : List Placed) (path before : List ℕ) (byte : ℕ) (node : Node) → path ≡ before ++ byte ∷ [] → byte ≡ 47 → last_at before places Missing ≡ node → tree_by places path ≡ as_directory node

@@ -1,4 +1,4 @@
--- What the acts of a link come to; the newest act stands first.
+-- What the acts of a link come to; the newest act stands first (README.md of this crate, 'What an object tells').
 use Rattle.std.specs.Prelude.{ℕ, List, [], ◌∷◌, ◌++◌, Option, Some, None, Bool, true, false, if◌then◌else◌}
 use Rattle.lt_world.specs.declared.net.Ending.{Ending}
 use Rattle.lt_world.specs.Trace.{Act, Accepted, Readable, Writable, Read, Wrote, Close}

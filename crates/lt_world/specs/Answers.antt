@@ -1,4 +1,4 @@
--- What each answer of a net means.
+-- What each answer of a net means (src/net.rt, the trait `Net`).
 use Rattle.std.specs.Prelude.{◌≡◌, ℕ, ◌<◌, ◌≤◌, List, [], ◌∷◌, length, take, false, Some, None}
 use Rattle.lt_world.specs.declared.net.Address.{Address}
 use Rattle.lt_world.specs.declared.net.Owner.{Owner}
@@ -23,6 +23,7 @@ event_tells event.Idle trace = trace
 event_tells event.Over trace = trace
 event_tells event.NoMemory trace = trace
 
+-- of which kind an answer is
 abbrev pub kind_of : Event → NextKind
 kind_of (event.Arrived link peer local) = kind.Event
 kind_of (event.Readable link) = kind.Event
@@ -56,17 +57,20 @@ UsesEvent event.Over before after = after ≡ 0
 UsesEvent event.NoMemory before after = after ≡ before
 UsesEvent other before after = after < before
 
+-- what a read is told as: the size of the buffer, and what was put at its front
 abbrev pub read_act : Got → List ℕ → Act
 read_act (got.Bytes n) buf = Read (length buf) (take n buf)
 read_act got.End buf = ReadEnd
 read_act got.NotYet buf = NotYet Reading
 read_act got.Failed buf = Failed Reading
 
+-- what a write is told as: how much was offered, and what was taken from its front
 abbrev pub write_act : Took → List ℕ → Act
 write_act (took.Bytes n) bytes = Wrote (length bytes) (take n bytes)
 write_act took.NotYet bytes = NotYet Writing
 write_act took.Failed bytes = Failed Writing
 
+-- what a connect is told as, on the link of the client for which it was made
 abbrev pub dial_act : Dialled → Owner → Address → Act
 dial_act (dialled.Link link) owner to = Connect owner to (Some link.0)
 dial_act dialled.Failed owner to = Connect owner to None

@@ -1,4 +1,4 @@
--- What files hold and what was asked of them.
+-- What files hold and what was asked of them (src/files.rt, the trait `Files`).
 use Rattle.std.specs.Prelude.{◌≡◌, ℕ, ◌+◌, ◌≤◌, List, [], ◌∷◌, length, take, drop, Option, Some, None, unwrap_or, Bool, true, false, ◌&&◌, ◌==◌, if◌then◌else◌}
 use Rattle.lt_world.specs.declared.files.FileCall.{FileCall}
 use Rattle.lt_world.specs.declared.files.FileCall.TheVariants as call
@@ -12,9 +12,11 @@ pub data Node : Type 0 where
   -- its bytes, and the time of its last change in seconds
   File : List ℕ → ℕ → Node
 
+-- what stands at each path
 abbrev pub Tree : Type 0
 Tree = List ℕ → Node
 
+-- a file stands at the path
 abbrev pub IsFileAt : List ℕ → Tree → Type 0
 IsFileAt path tree = (bytes : List ℕ) × (time : ℕ) × (tree path ≡ File bytes time)
 
@@ -28,12 +30,15 @@ ends_in_slash (byte ∷ next ∷ path) = ends_in_slash (next ∷ path)
 abbrev pub Table : Type 0
 Table = ℕ → Option (List ℕ)
 
+-- the table with a file opened under this number
 abbrev pub with_file : ℕ → List ℕ → Table → Table
 with_file file bytes table other = if other == file then Some bytes else table other
 
+-- the table without the file of this number
 abbrev pub without_file : ℕ → Table → Table
 without_file file table other = if other == file then None else table other
 
+-- what files tell: the tree, the opened files, and what was asked
 pub record Disk : Type 0 where
   pub tree : Tree
   pub table : Table
@@ -44,9 +49,11 @@ pub record Disk : Type 0 where
 abbrev pub asked : FileCall → Owner → Bool → Disk → Disk
 asked what owner failed disk = record { tree = disk.tree; table = disk.table; calls = record { kind = what; owner = owner; failed = failed } ∷ disk.calls }
 
+-- after a file was opened under this number
 abbrev pub opened : ℕ → List ℕ → Disk → Disk
 opened file bytes disk = record { tree = disk.tree; table = with_file file bytes disk.table; calls = disk.calls }
 
+-- after the file of this number was given back
 abbrev pub released : ℕ → Disk → Disk
 released file disk = record { tree = disk.tree; table = without_file file disk.table; calls = disk.calls }
 
@@ -54,15 +61,18 @@ released file disk = record { tree = disk.tree; table = without_file file disk.t
 abbrev pub HasRange : Disk → ℕ → ℕ → ℕ → Type 0
 HasRange disk file start len = (bytes : List ℕ) × (disk.table file ≡ Some bytes) × (start + len ≤ length bytes)
 
+-- so many bytes of an opened file from here on
 abbrev pub range_of : Disk → ℕ → ℕ → ℕ → List ℕ
 range_of disk file start len = take len (drop start (unwrap_or (disk.table file) []))
 
+-- the same kind of call
 abbrev pub is_kind : FileCall → FileCall → Bool
 is_kind call.Find call.Find = true
 is_kind call.Open call.Open = true
 is_kind call.Read call.Read = true
 is_kind a b = false
 
+-- the same request of the same client
 abbrev pub is_owner : Owner → Owner → Bool
 is_owner a b = a.conn == b.conn && a.request == b.request
 
@@ -82,6 +92,7 @@ abbrev pub log_of : List Call → List Logged
 log_of [] = []
 log_of (c ∷ calls) = if c.failed then record { owner = c.owner; kind = c.kind; nth = count c.kind c.owner calls } ∷ log_of calls else log_of calls
 
+-- a logged call is this one
 abbrev pub is_entry : FileCall → Owner → ℕ → Logged → Bool
 is_entry what owner nth logged = is_kind logged.kind what && is_owner logged.owner owner && logged.nth == nth
 

@@ -1,4 +1,4 @@
--- What each answer of files means.
+-- What each answer of files means (src/files.rt, the trait `Files`).
 use Rattle.std.specs.Prelude.{◌≡◌, ℕ, ◌<◌, ◌^◌, List, length, None, true, false}
 use Rattle.lt_world.specs.declared.files.FileCall.TheVariants as call
 use Rattle.lt_world.specs.declared.net.Owner.{Owner}
@@ -27,6 +27,7 @@ abbrev pub FoundWithin : Found → List ℕ → Type 0
 FoundWithin (found.File size time) path = (size < 2 ^ 62) × (ends_in_slash path ≡ false)
 FoundWithin answer path = Unit {0}
 
+-- a find fails only where the count rose
 abbrev pub FoundCause : Found → ℕ → ℕ → Type 0
 FoundCause found.Failed before now = Rose before now
 FoundCause answer before now = Unit {0}
@@ -39,15 +40,18 @@ pub record OpensFile (file size time : ℕ) (owner : Owner) (path : List ℕ) (b
   pub fresh : before.table file ≡ None
   pub after_is : after ≡ opened file bytes (asked call.Open owner false before)
 
+-- what each answer of `open` says of the disk before and after it
 abbrev pub Opens : Opened → Owner → List ℕ → Disk → Disk → Type 0
 Opens (opens.File file size time) owner path before after = OpensFile file.0 size time owner path before after
 Opens opens.Failed owner path before after = after ≡ asked call.Open owner true before
 Opens opens.NoMemory owner path before after = after ≡ before
 
+-- an opened file has fewer than 2^62 bytes, and its path has no final slash
 abbrev pub OpenedWithin : Opened → List ℕ → Type 0
 OpenedWithin (opens.File file size time) path = (size < 2 ^ 62) × (ends_in_slash path ≡ false)
 OpenedWithin answer path = Unit {0}
 
+-- an open fails only where the count rose
 abbrev pub OpenedCause : Opened → ℕ → ℕ → Type 0
 OpenedCause opens.Failed before now = Rose before now
 OpenedCause answer before now = Unit {0}

@@ -14,24 +14,29 @@ use Rattle.lt_world.specs.Memory.{Stored, tree_of, table_by}
 use Rattle.lt_world.specs.Plans.{is_due, next, counted, fails_at}
 use Rattle.lt_world.specs.Slots.{closes_slot}
 
-abbrev pub bytes_of : Node → List ℕ
-bytes_of (File bytes time) = bytes
-bytes_of node = []
+-- the bytes of a file, and none of anything else
+abbrev pub file_bytes : Node → List ℕ
+file_bytes (File bytes time) = bytes
+file_bytes node = []
 
+-- the files after a find
 abbrev pub after_find : Found → Owner → Stored → Stored
 after_find found.NoMemory owner s = s
 after_find found.Failed owner s = record s { calls = record { kind = call.Find; owner = owner; failed = true } ∷ s.calls; find_plan = counted s.find_plan; faults = next s.faults }
 after_find answer owner s = record s { calls = record { kind = call.Find; owner = owner; failed = false } ∷ s.calls; find_plan = counted s.find_plan }
 
+-- the files after an open
 abbrev pub after_open : Opened → Owner → List ℕ → Stored → Stored
 after_open opening.NoMemory owner path s = s
 after_open opening.Failed owner path s = record s { calls = record { kind = call.Open; owner = owner; failed = true } ∷ s.calls; open_plan = counted s.open_plan; faults = next s.faults }
-after_open (opening.File file size time) owner path s = record s { calls = record { kind = call.Open; owner = owner; failed = false } ∷ s.calls; open_plan = counted s.open_plan; opened = s.opened ++ Some (bytes_of (tree_of s path)) ∷ [] }
+after_open (opening.File file size time) owner path s = record s { calls = record { kind = call.Open; owner = owner; failed = false } ∷ s.calls; open_plan = counted s.open_plan; opened = s.opened ++ Some (file_bytes (tree_of s path)) ∷ [] }
 
+-- the files after a read
 abbrev pub after_read : Result (Unit {0}) Fault → Owner → Stored → Stored
 after_read (Ok done) owner s = record s { read_plan = counted s.read_plan }
 after_read (Err fault) owner s = record s { read_plan = counted s.read_plan; faults = next s.faults; failed_read = Some owner }
 
+-- the files after a file was given back
 abbrev pub after_release : ℕ → Stored → Stored
 after_release file s = record s { opened = closes_slot file s.opened }
 
@@ -41,11 +46,13 @@ FindPlanned found.Failed due = due ≡ true
 FindPlanned found.NoMemory due = Unit {0}
 FindPlanned answer due = due ≡ false
 
+-- the same of an open
 abbrev pub OpenPlanned : Opened → Bool → Type 0
 OpenPlanned opening.Failed due = due ≡ true
 OpenPlanned opening.NoMemory due = Unit {0}
 OpenPlanned (opening.File file size time) due = due ≡ false
 
+-- the same of a read
 abbrev pub ReadPlanned : Result (Unit {0}) Fault → Bool → Type 0
 ReadPlanned (Ok done) due = due ≡ false
 ReadPlanned (Err fault) due = due ≡ true
@@ -73,6 +80,7 @@ pub data Leads : Stored → Stored → Type 0 where
   reads : {a b : Stored} → Leads a b → (answer : Result (Unit {0}) Fault) (owner : Owner) → ReadPlanned answer (is_due b.read_plan) → Leads a (after_read answer owner b)
   releases : {a b : Stored} → Leads a b → (file : ℕ) → Leads a (after_release file b)
 
+-- calls after calls are calls
 pub Leads-more : (a b c : Stored) → Leads a b → Leads b c → Leads a c
 Leads-more a b c ab same = ab
 Leads-more a b c ab (finds bc answer owner planned) = finds (Leads-more _ _ _ ab bc) answer owner planned
@@ -85,12 +93,15 @@ pub record FilesLater (a b : Stored) : Type 0 where
   pub leads : Leads a b
   pub faults : a.faults ≤ b.faults
 
+-- files are later than themselves
 pub FilesLater-same : (a : Stored) → FilesLater a a
 FilesLater-same a = record { leads = same; faults = le_refl a.faults }
 
+-- what is later than something later is later
 pub FilesLater-more : (a b c : Stored) → FilesLater a b → FilesLater b c → FilesLater a c
 FilesLater-more a b c ab bc = record { leads = Leads-more a b c ab.leads bc.leads; faults = le_trans ab.faults bc.faults }
 
+-- the law that the trait asks for
 pub FilesLater-faults : (a b : Stored) → FilesLater a b → a.faults ≤ b.faults
 FilesLater-faults a b later = later.faults
 

@@ -24,6 +24,7 @@ DeedsTellAll = (acts : List Act) → (input_of (deeds_of acts) ≡ input_of acts
 abbrev pub FilesStayCalm : Type 0
 FilesStayCalm = (a b : Stored) → Leads a b → IsUnplanned a → IsUnplanned b × (b.faults ≡ a.faults)
 
+-- the same of texts
 abbrev pub TextsStayCalm : Type 0
 TextsStayCalm = (a b : Shelf) → Fetches a b → a.plan.fails ≡ [] → (b.plan.fails ≡ []) × (b.faults ≡ a.faults)
 
@@ -39,5 +40,6 @@ LogIsQuiet = (what : FileCall) (owner : Owner) (nth : ℕ) (calls : List Call) �
 abbrev pub NoneArrives : Type 0
 NoneArrives = (link : Link) (peer local : Address) (before after : ℕ) → link.0 < 2 ^ 32 → 2 ^ 32 ≤ before → IsNumbered (event.Arrived link peer local) before after → ⊥
 
+-- and none is dialled
 abbrev pub NoneIsDialled : Type 0
 NoneIsDialled = (link : Link) (before after : ℕ) → link.0 < 2 ^ 32 → 2 ^ 32 ≤ before → IsNumberedDial (dialled.Link link) before after → ⊥

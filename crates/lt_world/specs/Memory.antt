@@ -6,10 +6,12 @@ use Rattle.lt_world.specs.declared.files.Call.{Call}
 use Rattle.lt_world.specs.Disk.{Node, Missing, Directory, File, Tree, Table, Disk, ends_in_slash}
 use Rattle.lt_world.specs.Plans.{Planned, no_plan}
 
+-- what was placed at a path
 pub record Placed : Type 0 where
   pub path : List ℕ
   pub node : Node
 
+-- what files in memory hold
 pub record Stored : Type 0 where
   -- in the order in which they were placed: of one path the last counts
   pub places : List Placed
@@ -29,6 +31,7 @@ without_slash [] = []
 without_slash (byte ∷ []) = if byte == 47 then [] else byte ∷ []
 without_slash (byte ∷ next ∷ path) = byte ∷ without_slash (next ∷ path)
 
+-- what a path with a final slash sees: a directory, or nothing
 abbrev pub as_directory : Node → Node
 as_directory Directory = Directory
 as_directory node = Missing
@@ -43,16 +46,20 @@ abbrev pub last_at : List ℕ → List Placed → Node → Node
 last_at path [] node = node
 last_at path (placed ∷ places) node = last_at path places (if bytes_eq placed.path path then placed.node else node)
 
+-- what each path names after these were placed
 abbrev pub tree_by : List Placed → Tree
 tree_by places path = seen_at path (last_at (without_slash path) places Missing)
 
+-- the bytes under each number, counted from the front
 abbrev pub table_by : List (Option (List ℕ)) → Table
 table_by [] file = None
 table_by (slot ∷ slots) file = if file == 0 then slot else table_by slots (file - 1)
 
+-- the tree of files in memory
 abbrev pub tree_of : Stored → Tree
 tree_of stored = tree_by stored.places
 
+-- what files in memory tell
 abbrev pub disk_of : Stored → Disk
 disk_of stored = record { tree = tree_by stored.places; table = table_by stored.opened; calls = stored.calls }
 
@@ -65,6 +72,7 @@ abbrev pub parents : List ℕ → List ℕ → List (List ℕ)
 parents before [] = []
 parents before (byte ∷ path) = if byte == 47 then before ∷ parents (before ++ byte ∷ []) path else parents (before ++ byte ∷ []) path
 
+-- a directory at each of these paths
 abbrev pub with_directories : List (List ℕ) → Tree → Tree
 with_directories [] tree = tree
 with_directories (path ∷ paths) tree = with_directories paths (with_node path Directory tree)
@@ -77,6 +85,7 @@ with_file_at path time bytes tree = with_node path (File bytes time) (with_direc
 abbrev pub with_directory_at : List ℕ → Tree → Tree
 with_directory_at path tree = with_node path Directory (with_directories (parents [] path) tree)
 
+-- the path is absolute
 abbrev pub begins_with_slash : List ℕ → Bool
 begins_with_slash [] = false
 begins_with_slash (byte ∷ path) = byte == 47

@@ -23,5 +23,6 @@ counted plan = record { fails = plan.fails; made = next plan.made }
 abbrev pub fails_at : ℕ → Planned → Planned
 fails_at nth plan = record { fails = plan.fails ++ nth ∷ []; made = plan.made }
 
+-- no call was made, and none is to fail
 abbrev pub no_plan : Planned
 no_plan = record { fails = []; made = 0 }

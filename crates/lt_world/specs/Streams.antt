@@ -1,4 +1,4 @@
--- What a read of a source gives, and what a write to a sink takes.
+-- What a read of a source gives, and what a write to a sink takes (src/streams.rt).
 use Rattle.std.specs.Prelude.{◌≡◌, ℕ, ◌<◌, ◌≤◌, List, [], ◌++◌, length, take}
 
 -- a read gives the next bytes, and none only at the end or into no room

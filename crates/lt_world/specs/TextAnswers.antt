@@ -1,4 +1,4 @@
--- What texts hold, what was asked of them, and what their answers mean.
+-- What texts hold, what was asked of them, and what their answers mean (src/texts.rt, the trait `Texts`).
 use Rattle.std.specs.Prelude.{◌≡◌, ℕ, ◌<◌, ◌≤◌, List, ◌∷◌, length, Option, Some, None}
 use Rattle.lt_world.specs.declared.texts.Fetched.{Fetched}
 use Rattle.lt_world.specs.declared.texts.Fetched.TheVariants as fetched
@@ -26,10 +26,12 @@ FetchRight fetched.Long max held = (bytes : List ℕ) × (held ≡ Some bytes) �
 FetchRight fetched.Failed max held = (bytes : List ℕ) × (held ≡ Some bytes) × (length bytes ≤ max)
 FetchRight fetched.NoMemory max held = Unit {0}
 
+-- a text has no more bytes than were allowed
 abbrev pub FetchWithin : Fetched → ℕ → Type 0
 FetchWithin (fetched.Text text) max = length text ≤ max
 FetchWithin answer max = Unit {0}
 
+-- a fetch fails only where the count rose
 abbrev pub FetchCause : Fetched → ℕ → ℕ → Type 0
 FetchCause fetched.Failed before now = Rose before now
 FetchCause answer before now = Unit {0}

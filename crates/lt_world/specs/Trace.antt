@@ -1,4 +1,4 @@
--- What a net has answered, the newest answer first.
+-- What a net has answered, the newest answer first (src/net.rt, the trait `Net`).
 use Rattle.std.specs.Prelude.{◌≡◌, ℕ, ◌+◌, max, List, [], ◌∷◌, ◌++◌, Bool, true, false, Option, Some, if◌then◌else◌, ◌==◌}
 use Rattle.lt_world.specs.declared.net.Address.{Address}
 use Rattle.lt_world.specs.declared.net.Owner.{Owner}
@@ -28,6 +28,7 @@ pub data Act : Type 0 where
   Connect : Owner → Address → Option ℕ → Act
   Close : Ending → Act
 
+-- an act, and the number of its link
 pub record Entry : Type 0 where
   pub link : ℕ
   pub act : Act

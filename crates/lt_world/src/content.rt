@@ -1,4 +1,4 @@
-// The bytes of a file in memory, which every opening of it shares.
+//! The bytes of a file in memory, which every opening of it shares.
 ghost use Rattle.std.specs.Prelude.{◌≡◌, ◌<◌, ◌^◌, length, IfOk};
 
 use lt_bytes::{NoMemory, Text};

@@ -1,4 +1,4 @@
-// Files: what they answer, and what their answers mean.
+//! Files: what they answer, and what their answers mean.
 use crate::fault::Fault;
 use crate::net::Owner;
 

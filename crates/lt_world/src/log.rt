@@ -1,4 +1,4 @@
-// What was asked, the newest first.
+//! What was asked, the newest first.
 ghost use Rattle.std.specs.Prelude.{◌≡◌, [], ◌∷◌, OnOk, OnErr, drop};
 
 use lt_bytes::NoMemory;

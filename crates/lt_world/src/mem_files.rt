@@ -1,4 +1,4 @@
-// Files in memory, some of whose calls fail as planned. They tell all.
+//! Files in memory, some of whose calls fail as planned. They tell all.
 ghost use Rattle.std.specs.Prelude.{◌≡◌, ◌+◌, ◌≤◌, ◌<◌, length, [], ◌∷◌, ◌++◌, None, OnOk, OnErr, ℕ, List, Some, true};
 ghost use Rattle.lt_world.specs.Disk.{IsFileAt};
 ghost use Rattle.lt_world.specs.FileAnswers.{FoundRight, FoundWithin, OpenedWithin};

@@ -1,4 +1,4 @@
-// A sink in memory with a fixed room, one of whose writes fails as planned. It tells its bytes.
+//! A sink in memory with a fixed room, one of whose writes fails as planned. It tells its bytes.
 ghost use Rattle.std.specs.Prelude.{◌≡◌, ◌≤◌, ◌+◌, [], ◌++◌, Some, None, IfOk, length, vec_len, vec_capacity};
 ghost use Rattle.lt_world.specs.SinkRuns.{empty_sink, is_due, after_write, WritePlanned};
 

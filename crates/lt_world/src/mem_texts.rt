@@ -1,4 +1,4 @@
-// Texts in memory, some of whose calls fail as planned. They tell all.
+//! Texts in memory, some of whose calls fail as planned. They tell all.
 ghost use Rattle.std.specs.Prelude.{◌≡◌, ◌≤◌, OnOk, OnErr};
 ghost use Rattle.lt_world.specs.Plans.{is_due, fails_at};
 ghost use Rattle.lt_world.specs.TextAnswers.{FetchRight, FetchWithin};

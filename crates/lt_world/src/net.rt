@@ -1,4 +1,4 @@
-// Sockets: what a net answers, and what its answers mean.
+//! Sockets: what a net answers, and what its answers mean.
 
 /// A connection, of a client or to a gateway, by its number. Numbers count upwards over both together.
 #[derive(Clone, Copy, Debug, PartialEq, Eq)]

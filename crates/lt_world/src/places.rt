@@ -1,8 +1,8 @@
-// What stands at the paths of the files in memory.
+//! What stands at the paths of the files in memory.
 ghost use Rattle.std.specs.Prelude.{◌≡◌, ◌++◌, ◌∷◌, [], take, OnOk, OnErr, length};
 ghost use Rattle.lt_world.specs.Disk.{Directory};
 ghost use Rattle.lt_world.specs.Memory.{Placed, tree_by, with_node, with_directories, parents};
-ghost use Rattle.lt_world.specs.Standing.{node_of, Sees, StandsLast, Grows};
+ghost use Rattle.lt_world.specs.Standing.{node_of, Sees, StandsLast, AddsPlaces};
 
 use crate::content::Content;
 use lt_bytes::{NoMemory, Text};
@@ -105,7 +105,7 @@ impl Places {
 
     fn add_directory(&mut self, path: &[u8]) -> Result<(), NoMemory>
         ensures ok { OnOk result (tree_by self.new ≡ with_node path.now Directory (tree_by self.old)) }
-        ensures grows { Grows self.old self.new }
+        ensures grows { AddsPlaces self.old self.new }
     {
         if let Some(Standing::Directory) = self.last_at(path) {
             return Ok(());
@@ -115,7 +115,7 @@ impl Places {
 
     fn add_parents(&mut self, path: &[u8]) -> Result<(), NoMemory>
         ensures ok { OnOk result (tree_by self.new ≡ with_directories (parents [] path.now) (tree_by self.old)) }
-        ensures grows { Grows self.old self.new }
+        ensures grows { AddsPlaces self.old self.new }
     {
         for i in 0..path.len() {
             if path[i] == b'/' && self.add_directory(&path[..i]).is_err() {
@@ -127,7 +127,7 @@ impl Places {
 
     fn add_with_parents(&mut self, path: &[u8], standing: Standing) -> Result<(), NoMemory>
         ensures ok { OnOk result (tree_by self.new ≡ with_node path.now (node_of standing) (with_directories (parents [] path.now) (tree_by self.old))) }
-        ensures grows { Grows self.old self.new }
+        ensures grows { AddsPlaces self.old self.new }
     {
         self.add_parents(path)?;
         self.add(path, standing)

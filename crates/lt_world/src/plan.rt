@@ -1,4 +1,4 @@
-// Which calls of one kind are to fail.
+//! Which calls of one kind are to fail.
 ghost use Rattle.std.specs.Prelude.{◌≡◌, [], ◌∷◌, ◌++◌, OnOk, OnErr};
 ghost use Rattle.lt_world.specs.Plans.{is_due, next};
 

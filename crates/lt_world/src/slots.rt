@@ -1,4 +1,4 @@
-// The opened files, each with its bytes under its number.
+//! The opened files, each with its bytes under its number.
 ghost use Rattle.std.specs.Prelude.{◌≡◌, ◌+◌, ◌≤◌, ◌<◌, ℕ, List, Some, None, IfSome, [], ◌∷◌, ◌++◌, length, take, drop, set};
 ghost use Rattle.lt_world.specs.Memory.{table_by};
 ghost use Rattle.lt_world.specs.Slots.{OpensSlot, closes_slot};

@@ -1,4 +1,4 @@
-// Bytes that come and bytes that go, a piece at a time.
+//! Bytes that come and bytes that go, a piece at a time.
 use crate::fault::Fault;
 
 /// Where bytes come from.

@@ -1,4 +1,4 @@
-// Each call in memory with ample memory, and the cases that no clause shows.
+//! Each call in memory with ample memory, and the cases that no clause shows.
 use crate::{
     Fault, Fetched, FileCall, Files, Found, MemFiles, MemSink, MemTexts, Opened, Owner, Sink, Texts,
 };
@@ -9,29 +9,33 @@ const OWNER: Owner = Owner {
     request: 1,
 };
 
+// What stands at a path.
+fn found(files: &mut MemFiles, path: &[u8]) -> Found {
+    files.find(OWNER, path)
+}
+
 #[test]
 fn a_path_is_what_the_last_call_made_of_it(rt: HostRuntime) -> Result<(), Fail> {
     let mut files = MemFiles::new(rt.alloc());
-    assert_eq!(rt; files.find(OWNER, b"/"), Found::Missing);
+    assert_eq!(rt; found(&mut files, b"/"), Found::Missing);
     files.add_file(b"/srv/d", 5, b"gone")?;
     files.add_file(b"/srv/d/a.txt", 7, b"hello")?;
     files.add_dir(b"/srv/e")?;
     files.add_file(b"/srv/e", 9, b"")?;
-    for (path, found) in [
-        (b"".as_slice(), Found::Missing),
-        (b"/", Found::Directory),
-        (b"/srv", Found::Directory),
-        (b"/srv/", Found::Directory),
-        (b"/srv/d", Found::Directory),
-        (b"/srv/d/", Found::Directory),
-        (b"/srv/d/a.txt", Found::File { size: 5, time: 7 }),
-        (b"/srv/d/a.txt/", Found::Missing),
-        (b"/srv/e", Found::File { size: 0, time: 9 }),
-        (b"/srv/e/", Found::Missing),
-        (b"/sr", Found::Missing),
-    ] {
-        assert_eq!(rt; files.find(OWNER, path), found, "{path:?}");
+    for path in b"/ /srv /srv/ /srv/d /srv/d/".split(|byte| *byte == b' ') {
+        assert_eq!(rt; found(&mut files, path), Found::Directory, "{path:?}");
     }
+    for path in b"|/srv/d/a.txt/|/srv/e/|/sr".split(|byte| *byte == b'|') {
+        assert_eq!(rt; found(&mut files, path), Found::Missing, "{path:?}");
+    }
+    assert_eq!(rt;
+        found(&mut files, b"/srv/d/a.txt"),
+        Found::File { size: 5, time: 7 }
+    );
+    assert_eq!(rt;
+        found(&mut files, b"/srv/e"),
+        Found::File { size: 0, time: 9 }
+    );
     Ok(())
 }
 
@@ -63,16 +67,13 @@ fn planned_calls_of_files_fail_and_no_others(rt: HostRuntime) -> Result<(), Fail
     files.plan(FileCall::Find, 1)?;
     files.plan(FileCall::Open, 0)?;
     files.plan(FileCall::Read, 0)?;
-    for (read, bytes) in [
-        (None, b"....."),
-        (None, b"....."),
-        (Some(Err(Fault)), b"....."),
-        (Some(Ok(())), b"hello"),
-    ] {
-        let mut buf = *b".....";
-        assert_eq!(rt; read_whole(&mut files, b"/a", &mut buf), read);
-        assert_eq!(rt; &buf, bytes);
-    }
+    let mut buf = *b".....";
+    assert_eq!(rt; read_whole(&mut files, b"/a", &mut buf), None);
+    assert_eq!(rt; read_whole(&mut files, b"/a", &mut buf), None);
+    assert_eq!(rt; read_whole(&mut files, b"/a", &mut buf), Some(Err(Fault)));
+    assert_eq!(rt; &buf, b".....");
+    assert_eq!(rt; read_whole(&mut files, b"/a", &mut buf), Some(Ok(())));
+    assert_eq!(rt; &buf, b"hello");
     Ok(())
 }
 
@@ -84,15 +85,10 @@ fn planned_calls_of_texts_fail_where_the_text_is_there(rt: HostRuntime) -> Resul
     for nth in 0..3 {
         texts.plan(nth)?;
     }
-    for (name, max, answer) in [
-        (b"L", 9, b"missing".as_slice()),
-        (b"K", 2, b"long"),
-        (b"K", 3, b"failed"),
-        (b"K", 3, b"abc"),
-    ] {
-        let fetched = texts.fetch(name, max);
-        assert_eq!(rt; shown(&fetched), answer);
-    }
+    assert_eq!(rt; shown(&texts.fetch(b"L", 9)), b"missing".as_slice());
+    assert_eq!(rt; shown(&texts.fetch(b"K", 2)), b"long".as_slice());
+    assert_eq!(rt; shown(&texts.fetch(b"K", 3)), b"failed".as_slice());
+    assert_eq!(rt; shown(&texts.fetch(b"K", 3)), b"abc".as_slice());
     Ok(())
 }
 
@@ -112,15 +108,11 @@ fn a_sink_fails_as_planned_and_when_it_is_full(rt: HostRuntime) -> Result<(), Fa
     let mut sink = MemSink::new(rt.alloc(), 4)?;
     sink.plan(0);
     sink.plan(1);
-    for (piece, took) in [
-        (b"ab".as_slice(), Ok(2)),
-        (b"cd", Err(Fault)),
-        (b"cde", Ok(2)),
-        (b"e", Err(Fault)),
-        (b"", Ok(0)),
-    ] {
-        assert_eq!(rt; sink.write(piece), took);
-    }
+    assert_eq!(rt; sink.write(b"ab"), Ok(2));
+    assert_eq!(rt; sink.write(b"cd"), Err(Fault));
+    assert_eq!(rt; sink.write(b"cde"), Ok(2));
+    assert_eq!(rt; sink.write(b"e"), Err(Fault));
+    assert_eq!(rt; sink.write(b""), Ok(0));
     assert_eq!(rt; sink.bytes(), b"abcd".as_slice());
     Ok(())
 }

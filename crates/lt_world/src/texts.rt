@@ -1,4 +1,4 @@
-// Texts by their names: configuration files and scripts.
+//! Texts by their names: configuration files and scripts.
 use lt_bytes::Text;
 
 #[derive(Drop)]

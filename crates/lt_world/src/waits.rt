@@ -1,4 +1,4 @@
-// A net that listens at an address and can wait for the next event.
+//! A net that listens at an address and can wait for the next event.
 use crate::fault::Fault;
 use crate::net::{Address, Net};
 

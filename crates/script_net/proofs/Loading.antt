@@ -10,7 +10,7 @@ use Rattle.lt_script.specs.declared.lines.Line.TheVariants.{Skip, File, Step as 
 use Rattle.lt_script.specs.Grammar.{IsLine}
 use Rattle.lt_script.specs.Texts.{AreLines, gathered, Spells}
 use Rattle.script_net.specs.Loads.{path_of, AreRooted}
-use Rattle.script_net.specs.Steps.{rest_of}
+use Rattle.script_net.specs.Steps.{steps_from}
 use Rattle.script_net.specs.Playing.{Playing, unplayed}
 use Rattle.script_net.proofs.Turning.{rest_none}
 
@@ -36,7 +36,7 @@ spelled_rooted bytes script spells = subst (λ (s : Script). AreRooted s.files) 
 
 -- a new net with other steps
 pub loaded : (a : Playing) (steps : List Step) → a ≡ unplayed []
-    → record { script = steps; game = record { left = rest_of 0 (drop 0 steps); sides = a.game.sides; taker = a.game.taker; trace = a.game.trace }; faults = a.faults; last = a.last; calls = a.calls; room = a.room } ≡ unplayed steps
+    → record { script = steps; game = record { left = steps_from 0 (drop 0 steps); sides = a.game.sides; taker = a.game.taker; trace = a.game.trace }; faults = a.faults; last = a.last; calls = a.calls; room = a.room } ≡ unplayed steps
 loaded a steps new =
-    subst (λ (n : Playing). record { script = steps; game = record { left = rest_of 0 (drop 0 steps); sides = n.game.sides; taker = n.game.taker; trace = n.game.trace }; faults = n.faults; last = n.last; calls = n.calls; room = n.room } ≡ unplayed steps) (sym new)
+    subst (λ (n : Playing). record { script = steps; game = record { left = steps_from 0 (drop 0 steps); sides = n.game.sides; taker = n.game.taker; trace = n.game.trace }; faults = n.faults; last = n.last; calls = n.calls; room = n.room } ≡ unplayed steps) (sym new)
     (ap (λ (left : List Step). let net : Playing = record { script = steps; game = record { left = left; sides = []; taker = (unplayed []).game.taker; trace = [] }; faults = 0; last = (unplayed []).last; calls = 0; room = 0 } in net) (rest_none steps))

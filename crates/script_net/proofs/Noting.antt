@@ -8,7 +8,7 @@ use Rattle.lt_world.specs.Trace.{Act, Entry, Accepted, Readable, Writable, Read,
 use Rattle.script_net.specs.declared.notes.Done.{Done}
 use Rattle.script_net.specs.declared.notes.Done.TheVariants as done
 use Rattle.script_net.specs.declared.notes.Note.{Note}
-use Rattle.script_net.specs.Kept.{Kept, kept_at, fresh_kept, no_kept}
+use Rattle.script_net.specs.PortView.{PortView, kept_at, fresh_kept, no_kept}
 use Rattle.script_net.specs.Notes.{act_of, entry_of, trace_of, fits, AreWithin, IsTold}
 use Rattle.lt_world.specs.Acts.{output_of, ending_of}
 
@@ -19,20 +19,20 @@ pub begins_all : (bytes : List ℕ) → Begins bytes bytes
 begins_all bytes = ([], sym (append-nil bytes))
 
 -- what a link keeps only grows
-pub record Grows (before after : Kept) : Type 0 where
+pub record PortGrows (before after : PortView) : Type 0 where
   pub given : Begins before.side.given after.side.given
   pub taken : Begins before.taken after.taken
 
-pub record AllGrow (before after : List Kept) : Type 0 where
+pub record AllGrow (before after : List PortView) : Type 0 where
   pub len : length before ≤ length after
-  pub each : (link : ℕ) → link < length before → Grows (kept_at link before) (kept_at link after)
+  pub each : (link : ℕ) → link < length before → PortGrows (kept_at link before) (kept_at link after)
 
 piece_kept : (at len : ℕ) (bytes more : List ℕ) → at + len ≤ length bytes → take len (drop at (bytes ++ more)) ≡ take len (drop at bytes)
 piece_kept at len bytes more within =
     ap (take len) (drop-append-le at bytes more (omega arith)) ∙ take-append-le len (drop at bytes) more (omega (arith, length-drop at bytes))
 
 -- what a note says stays
-note_kept : (what : Done) (before after : Kept) → Grows before after → fits what before → (act_of what after ≡ act_of what before) × fits what after
+note_kept : (what : Done) (before after : PortView) → PortGrows before after → fits what before → (act_of what after ≡ act_of what before) × fits what after
 note_kept (done.Accepted peer local) before after grows within = (refl, tt)
 note_kept done.Readable before after grows within = (refl, tt)
 note_kept done.Writable before after grows within = (refl, tt)
@@ -48,7 +48,7 @@ note_kept done.WriteFailed before after grows within = (refl, tt)
 note_kept (done.Connect owner to) before after grows within = (refl, tt)
 note_kept (done.Close ending) before after grows within = (refl, tt)
 
-notes_kept : (before after : List Kept) (notes : List Note) → AllGrow before after → AreWithin before notes → (map (entry_of after) notes ≡ map (entry_of before) notes) × AreWithin after notes
+notes_kept : (before after : List PortView) (notes : List Note) → AllGrow before after → AreWithin before notes → (map (entry_of after) notes ≡ map (entry_of before) notes) × AreWithin after notes
 notes_kept before after [] grow within = (refl, tt)
 notes_kept before after (note ∷ notes) grow within =
     let here = note_kept note.done (kept_at note.link before) (kept_at note.link after) (grow.each note.link within.0.0) within.0.1 in
@@ -56,18 +56,18 @@ notes_kept before after (note ∷ notes) grow within =
     let first : entry_of after note ≡ entry_of before note = ap (λ (act : Act). let entry : Entry = record { link = note.link; act = act } in entry) here.0 in
     (ap (λ (e : Entry). e ∷ map (entry_of after) notes) first ∙ ap (λ (es : List Entry). entry_of before note ∷ es) rest.0, ((omega (arith, within.0.0, grow.len), here.1), rest.1))
 
-within_more : (ports : List Kept) (notes : List Note) (note : Note) → AreWithin ports notes → note.link < length ports → fits note.done (kept_at note.link ports) → AreWithin ports (notes ++ note ∷ [])
+within_more : (ports : List PortView) (notes : List Note) (note : Note) → AreWithin ports notes → note.link < length ports → fits note.done (kept_at note.link ports) → AreWithin ports (notes ++ note ∷ [])
 within_more ports [] note within below fit = ((below, fit), tt)
 within_more ports (first ∷ notes) note within below fit = (within.0, within_more ports notes note within.1 below fit)
 
 -- a note more is an entry more
-pub trace_next : (before after : List Kept) (notes : List Note) (note : Note) → AllGrow before after → AreWithin before notes
+pub trace_next : (before after : List PortView) (notes : List Note) (note : Note) → AllGrow before after → AreWithin before notes
     → trace_of after (notes ++ note ∷ []) ≡ entry_of after note ∷ trace_of before notes
 trace_next before after notes note grow within =
     ap reverse (map-append (entry_of after) notes (note ∷ [])) ∙ reverse-append (map (entry_of after) notes) (entry_of after note ∷ [])
     ∙ ap (λ (es : List Entry). entry_of after note ∷ reverse es) (notes_kept before after notes grow within).0
 
-told_next : (before after : List Kept) (notes : List Note) (note : Note) → IsTold before notes → AllGrow before after → note.link < length after → fits note.done (kept_at note.link after)
+told_next : (before after : List PortView) (notes : List Note) (note : Note) → IsTold before notes → AllGrow before after → note.link < length after → fits note.done (kept_at note.link after)
     → length after ≤ 4294967295 → link_bound (entry_of after note ∷ trace_of before notes) ≡ length after
     → ((link : ℕ) → (kept_at link after).taken ≡ output_of (own link (entry_of after note ∷ trace_of before notes)))
     → ((link : ℕ) → (kept_at link after).ending ≡ ending_of (own link (entry_of after note ∷ trace_of before notes)))
@@ -84,23 +84,23 @@ told_next before after notes note told grow below fit few named taken ending =
 
 -- one link changes
 
-grows_by : (t : Bool) (before : List Kept) (link other : ℕ) (now : Kept) → (other == link) ≡ t → link < length before → Grows (kept_at link before) now → Grows (kept_at other before) (kept_at other (set before link now))
+grows_by : (t : Bool) (before : List PortView) (link other : ℕ) (now : PortView) → (other == link) ≡ t → link < length before → PortGrows (kept_at link before) now → PortGrows (kept_at other before) (kept_at other (set before link now))
 grows_by true before link other now test below grows =
     let same : link ≡ other = grind (arith, nat_tests, test) in
-    subst (λ (k : ℕ). Grows (kept_at k before) (kept_at k (set before link now))) same
-    (subst (λ (q : Kept). Grows (kept_at link before) q) (sym (get_or-set_same before link now no_kept below)) grows)
+    subst (λ (k : ℕ). PortGrows (kept_at k before) (kept_at k (set before link now))) same
+    (subst (λ (q : PortView). PortGrows (kept_at link before) q) (sym (get_or-set_same before link now no_kept below)) grows)
 grows_by false before link other now test below grows =
-    subst (λ (q : Kept). Grows (kept_at other before) q) (sym (get_or-set_other before link other now no_kept (grind (arith, nat_tests, test))))
+    subst (λ (q : PortView). PortGrows (kept_at other before) q) (sym (get_or-set_other before link other now no_kept (grind (arith, nat_tests, test))))
     (record { given = begins_all (kept_at other before).side.given; taken = begins_all (kept_at other before).taken })
 
-pub set_grows : (before : List Kept) (link : ℕ) (now : Kept) → link < length before → Grows (kept_at link before) now → AllGrow before (set before link now)
+pub set_grows : (before : List PortView) (link : ℕ) (now : PortView) → link < length before → PortGrows (kept_at link before) now → AllGrow before (set before link now)
 set_grows before link now below grows = record {
-  len = omega (arith, length-set {A = Kept} before link now);
+  len = omega (arith, length-set {A = PortView} before link now);
   each = λ other h. grows_by (other == link) before link other now refl below grows;
 }
 
 -- a fact of each link by its own acts stays, where the changed link has it
-set_field : {A : Type 0} (f : Kept → A) (v : List Act → A) (t : Bool) (before : List Kept) (link other : ℕ) (now : Kept) (act : Act) (trace : List Entry) → (link == other) ≡ t → link < length before
+set_field : {A : Type 0} (f : PortView → A) (v : List Act → A) (t : Bool) (before : List PortView) (link other : ℕ) (now : PortView) (act : Act) (trace : List Entry) → (link == other) ≡ t → link < length before
     → ((k : ℕ) → f (kept_at k before) ≡ v (own k trace)) → f now ≡ v (act ∷ own link trace)
     → f (kept_at other (set before link now)) ≡ v (if t then act ∷ own other trace else own other trace)
 set_field f v true before link other now act trace test below each here =
@@ -110,7 +110,7 @@ set_field f v true before link other now act trace test below each here =
 set_field f v false before link other now act trace test below each here =
     ap f (get_or-set_other before link other now no_kept (grind (arith, nat_tests, test))) ∙ each other
 
-no_dial : (what : Done) (kept : Kept) → dial_bound (act_of what kept) ≡ 0
+no_dial : (what : Done) (kept : PortView) → dial_bound (act_of what kept) ≡ 0
 no_dial (done.Accepted peer local) kept = refl
 no_dial done.Readable kept = refl
 no_dial done.Writable kept = refl
@@ -128,13 +128,13 @@ bound_same : (link dialled bound : ℕ) → dialled ≡ 0 → link < bound → m
 bound_same link dialled bound none below = omega arith
 
 -- what a link becomes by an act that is noted
-pub record Becomes (before : Kept) (what : Done) (now : Kept) (acts : List Act) : Type 0 where
-  pub grows : Grows before now
+pub record Becomes (before : PortView) (what : Done) (now : PortView) (acts : List Act) : Type 0 where
+  pub grows : PortGrows before now
   pub fit : fits what now
   pub taken : now.taken ≡ output_of (act_of what now ∷ acts)
   pub ending : now.ending ≡ ending_of (act_of what now ∷ acts)
 
-pub told_set : (before : List Kept) (notes : List Note) (link : ℕ) (what : Done) (now : Kept) → IsTold before notes → link < length before → Becomes (kept_at link before) what now (own link (trace_of before notes))
+pub told_set : (before : List PortView) (notes : List Note) (link : ℕ) (what : Done) (now : PortView) → IsTold before notes → link < length before → Becomes (kept_at link before) what now (own link (trace_of before notes))
     → IsTold (set before link now) (notes ++ record { link = link; done = what } ∷ [])
 told_set before notes link what now told below becomes =
     let note : Note = record { link = link; done = what } in
@@ -142,19 +142,19 @@ told_set before notes link what now told below becomes =
     let trace = trace_of before notes in
     let at : kept_at link after ≡ now = get_or-set_same before link now no_kept below in
     let act : act_of what (kept_at link after) ≡ act_of what now = ap (act_of what) at in
-    told_next before after notes note told (set_grows before link now below becomes.grows) (omega (arith, length-set {A = Kept} before link now))
-    (subst (λ (q : Kept). fits what q) (sym at) becomes.fit)
-    (omega (arith, told.few, length-set {A = Kept} before link now))
-    (bound_same link (dial_bound (act_of what (kept_at link after))) (link_bound trace) (no_dial what (kept_at link after)) (omega (arith, told.named)) ∙ told.named ∙ sym (length-set {A = Kept} before link now))
+    told_next before after notes note told (set_grows before link now below becomes.grows) (omega (arith, length-set {A = PortView} before link now))
+    (subst (λ (q : PortView). fits what q) (sym at) becomes.fit)
+    (omega (arith, told.few, length-set {A = PortView} before link now))
+    (bound_same link (dial_bound (act_of what (kept_at link after))) (link_bound trace) (no_dial what (kept_at link after)) (omega (arith, told.named)) ∙ told.named ∙ sym (length-set {A = PortView} before link now))
     (λ other. set_field (λ q. q.taken) output_of (link == other) before link other now (act_of what (kept_at link after)) trace refl below told.taken (becomes.taken ∙ ap (λ (a : Act). output_of (a ∷ own link trace)) (sym act)))
     (λ other. set_field (λ q. q.ending) ending_of (link == other) before link other now (act_of what (kept_at link after)) trace refl below told.ending (becomes.ending ∙ ap (λ (a : Act). ending_of (a ∷ own link trace)) (sym act)))
 
-pub trace_set : (before : List Kept) (notes : List Note) (link : ℕ) (what : Done) (now : Kept) → IsTold before notes → link < length before → Grows (kept_at link before) now
+pub trace_set : (before : List PortView) (notes : List Note) (link : ℕ) (what : Done) (now : PortView) → IsTold before notes → link < length before → PortGrows (kept_at link before) now
     → trace_of (set before link now) (notes ++ record { link = link; done = what } ∷ []) ≡ said link (act_of what now ∷ []) (trace_of before notes)
 trace_set before notes link what now told below grows =
     let note : Note = record { link = link; done = what } in
     trace_next before (set before link now) notes note (set_grows before link now below grows) told.within
-    ∙ ap (λ (q : Kept). said link (act_of what q ∷ []) (trace_of before notes)) (get_or-set_same before link now no_kept below)
+    ∙ ap (λ (q : PortView). said link (act_of what q ∷ []) (trace_of before notes)) (get_or-set_same before link now no_kept below)
 
 -- a link is not named before it is there
 
@@ -179,21 +179,21 @@ unnamed link (entry ∷ trace) above =
 
 -- a link arrives
 
-kept_push : (before : List Kept) (link : ℕ) → link < length before → kept_at link (before ++ fresh_kept ∷ []) ≡ kept_at link before
+kept_push : (before : List PortView) (link : ℕ) → link < length before → kept_at link (before ++ fresh_kept ∷ []) ≡ kept_at link before
 kept_push [] link below = absurd (omega arith)
 kept_push (first ∷ before) zero below = refl
 kept_push (first ∷ before) (suc link) below = kept_push before link (omega arith)
 
-field_push : {A : Type 0} (f : Kept → A) (before : List Kept) (link : ℕ) → f fresh_kept ≡ f no_kept → f (kept_at link (before ++ fresh_kept ∷ [])) ≡ f (kept_at link before)
+field_push : {A : Type 0} (f : PortView → A) (before : List PortView) (link : ℕ) → f fresh_kept ≡ f no_kept → f (kept_at link (before ++ fresh_kept ∷ [])) ≡ f (kept_at link before)
 field_push f [] zero same = same
 field_push f [] (suc link) same = refl
 field_push f (first ∷ before) zero same = refl
 field_push f (first ∷ before) (suc link) same = field_push f before link same
 
-push_grows : (before : List Kept) → AllGrow before (before ++ fresh_kept ∷ [])
+push_grows : (before : List PortView) → AllGrow before (before ++ fresh_kept ∷ [])
 push_grows before = record {
   len = omega (arith, length-append before (fresh_kept ∷ []));
-  each = λ link below. subst (λ (q : Kept). Grows (kept_at link before) q) (sym (kept_push before link below))
+  each = λ link below. subst (λ (q : PortView). PortGrows (kept_at link before) q) (sym (kept_push before link below))
       (record { given = begins_all (kept_at link before).side.given; taken = begins_all (kept_at link before).taken });
 }
 
@@ -206,15 +206,15 @@ nothing_closed true peer local acts unclosed = sym (unclosed refl)
 nothing_closed false peer local acts unclosed = refl
 
 -- a link that is still to come has no ending
-unkept : (before : List Kept) (link : ℕ) → (length before == link) ≡ true → (kept_at link before).ending ≡ None
+unkept : (before : List PortView) (link : ℕ) → (length before == link) ≡ true → (kept_at link before).ending ≡ None
 unkept before link next =
     let is : length before ≡ link = grind (arith, nat_tests, next) in
-    ap (λ (q : Kept). q.ending) (get_or_past before link no_kept (omega (arith, is)))
+    ap (λ (q : PortView). q.ending) (get_or_past before link no_kept (omega (arith, is)))
 
 abbrev arrival : ℕ → Address → Address → Note
 arrival link peer local = record { link = link; done = done.Accepted peer local }
 
-pub told_push : (before : List Kept) (notes : List Note) (peer local : Address) → IsTold before notes → length before < 4294967295
+pub told_push : (before : List PortView) (notes : List Note) (peer local : Address) → IsTold before notes → length before < 4294967295
     → IsTold (before ++ fresh_kept ∷ []) (notes ++ arrival (length before) peer local ∷ [])
 told_push before notes peer local told few =
     let len : length (before ++ fresh_kept ∷ []) ≡ length before + 1 = length-append before (fresh_kept ∷ []) in
@@ -223,6 +223,6 @@ told_push before notes peer local told few =
     (λ link. field_push (λ q. q.taken) before link refl ∙ told.taken link ∙ sym (nothing_taken (length before == link) peer local (own link (trace_of before notes))))
     (λ link. field_push (λ q. q.ending) before link refl ∙ told.ending link ∙ sym (nothing_closed (length before == link) peer local (own link (trace_of before notes)) (λ next. sym (told.ending link) ∙ unkept before link next)))
 
-pub trace_push : (before : List Kept) (notes : List Note) (peer local : Address) → IsTold before notes
+pub trace_push : (before : List PortView) (notes : List Note) (peer local : Address) → IsTold before notes
     → trace_of (before ++ fresh_kept ∷ []) (notes ++ arrival (length before) peer local ∷ []) ≡ said (length before) (Accepted peer local ∷ []) (trace_of before notes)
 trace_push before notes peer local told = trace_next before (before ++ fresh_kept ∷ []) notes (arrival (length before) peer local) (push_grows before) told.within

@@ -10,7 +10,7 @@ use Rattle.lt_script.specs.declared.script.Name.{Name}
 use Rattle.lt_script.specs.declared.script.Step.{Step}
 use Rattle.lt_script.specs.declared.script.Step.TheVariants as step
 use Rattle.script_net.specs.Sides.{Side, side_at, fresh_side}
-use Rattle.script_net.specs.Steps.{link_of, is_due, skip, event_of, sides_after, taker_of, less, events_left, lowered, rest_of}
+use Rattle.script_net.specs.Steps.{link_of, is_due, skip, event_of, sides_after, taker_of, less, events_left, lowered, steps_from}
 use Rattle.script_net.specs.Calls.{Game, Call, Next, Reads, Writes, Connects, Closes, Turns, answer_of, begin, after}
 use Rattle.script_net.specs.Playing.{Playing, IsLater}
 
@@ -71,17 +71,17 @@ lowered_none (step.WriteFail name) = refl
 lowered_none step.Idle = refl
 lowered_none (step.Take name size count) = let e : count - 0 ≡ count = omega arith in rw e refl
 
-pub rest_none : (steps : List Step) → rest_of 0 steps ≡ steps
+pub rest_none : (steps : List Step) → steps_from 0 steps ≡ steps
 rest_none [] = refl
 rest_none (first ∷ steps) = ap (λ (s : Step). s ∷ steps) (lowered_none first)
 
 skip_by : (t : Bool) (played : ℕ) (first : Step) (steps : List Step) (sides : List Side) → is_due first sides ≡ t
-    → skip sides (rest_of played (first ∷ steps)) ≡ (if t then lowered played first ∷ steps else skip sides steps)
+    → skip sides (steps_from played (first ∷ steps)) ≡ (if t then lowered played first ∷ steps else skip sides steps)
 skip_by true played first steps sides due = rw (lowered_due played first sides, due) refl
 skip_by false played first steps sides due = rw (lowered_due played first sides, due) refl
 
 -- the next step that is due is the one that was begun
-pub skip_here : (played : ℕ) (steps : List Step) (sides : List Side) → skip sides steps ≡ steps → skip sides (rest_of played steps) ≡ rest_of played steps
+pub skip_here : (played : ℕ) (steps : List Step) (sides : List Side) → skip sides steps ≡ steps → skip sides (steps_from played steps) ≡ steps_from played steps
 skip_here played [] sides same = refl
 skip_here played (first ∷ steps) sides same = here (is_due first sides) refl same
   where
@@ -89,16 +89,16 @@ skip_here played (first ∷ steps) sides same = here (is_due first sides) refl s
     longer sides [] = le_refl 0
     longer sides (first ∷ steps) = grind (arith, longer sides steps)
 
-    here : (t : Bool) → is_due first sides ≡ t → (if t then first ∷ steps else skip sides steps) ≡ first ∷ steps → skip sides (rest_of played (first ∷ steps)) ≡ rest_of played (first ∷ steps)
+    here : (t : Bool) → is_due first sides ≡ t → (if t then first ∷ steps else skip sides steps) ≡ first ∷ steps → skip sides (steps_from played (first ∷ steps)) ≡ steps_from played (first ∷ steps)
     here true due same = skip_by true played first steps sides due
     here false due same = absurd (omega (arith, ap length same, longer sides steps))
 
 -- the next step that is due is a later one
-pub skip_later : (played : ℕ) (steps rest : List Step) (sides : List Side) → skip sides steps ≡ rest → length rest < length steps → skip sides (rest_of played steps) ≡ rest_of 0 rest
+pub skip_later : (played : ℕ) (steps rest : List Step) (sides : List Side) → skip sides steps ≡ rest → length rest < length steps → skip sides (steps_from played steps) ≡ steps_from 0 rest
 skip_later played [] rest sides same shorter = absurd (omega arith)
 skip_later played (first ∷ steps) rest sides same shorter = there (is_due first sides) refl same
   where
-    there : (t : Bool) → is_due first sides ≡ t → (if t then first ∷ steps else skip sides steps) ≡ rest → skip sides (rest_of played (first ∷ steps)) ≡ rest_of 0 rest
+    there : (t : Bool) → is_due first sides ≡ t → (if t then first ∷ steps else skip sides steps) ≡ rest → skip sides (steps_from played (first ∷ steps)) ≡ steps_from 0 rest
     there true due same = absurd (omega (arith, ap length same))
     there false due same = skip_by false played first steps sides due ∙ same ∙ sym (rest_none rest)
 

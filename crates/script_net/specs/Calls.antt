@@ -1,4 +1,4 @@
--- What the calls of a net do where it plays a script.
+-- What the calls of a net do where it plays a script (README.md of this crate, 'How a script is played').
 use Rattle.std.specs.Prelude.{◌≡◌, ℕ, zero, suc, ◌+◌, ◌-◌, ◌^◌, List, [], ◌∷◌, length, take, min, Bool, Option, None, if◌then◌else◌}
 use Rattle.lt_world.specs.Trace.{Act, Entry, NotYet, Failed, Writing, Wrote, Connect, Close, said}
 use Rattle.lt_world.specs.Answers.{event_tells}
@@ -50,6 +50,7 @@ begin (step ∷ rest) game = record {
   trace = event_tells (event_of step (length game.sides)) game.trace;
 }
 
+-- what a write is told as that took so many of the bytes
 abbrev pub some_taken : ℕ → List ℕ → Act
 some_taken zero bytes = NotYet Writing
 some_taken (suc n) bytes = Wrote (length bytes) (take (suc n) bytes)
@@ -58,6 +59,7 @@ some_taken (suc n) bytes = Wrote (length bytes) (take (suc n) bytes)
 abbrev pub takes : Bool → ℕ → List ℕ → Act
 takes fails most bytes = if fails then Failed Writing else some_taken (min most (length bytes)) bytes
 
+-- the game with one more answer
 abbrev pub tell : ℕ → Act → Game → Game
 tell link act game = record game { trace = said link (act ∷ []) game.trace }
 

@@ -1,4 +1,4 @@
--- Reads and writes that fail, and the lines that make them fail.
+-- Reads and writes that fail, and the lines that make them fail (README.md of this crate, 'How a script is played').
 use Rattle.std.specs.Prelude.{◌≡◌, List, Bool, true, false}
 use Rattle.std.specs.List.{list_any}
 use Rattle.lt_world.specs.Trace.{Act, Entry, Failed}

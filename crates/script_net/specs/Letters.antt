@@ -1,4 +1,4 @@
--- The bytes of a line that gives only their number.
+-- The bytes of a line that gives only their number (README.md of this crate, 'How a script is played').
 use Rattle.std.specs.Prelude.{ℕ, zero, suc, ◌+◌, ◌%◌, List, [], ◌∷◌, ◌++◌}
 
 -- the letters from `a` to `z`, again and again

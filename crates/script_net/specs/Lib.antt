@@ -5,8 +5,8 @@ pub mod Calls
 pub mod Plays
 pub mod Playing
 pub mod Failing
-pub mod Told
-pub mod Kept
+pub mod LinksView
+pub mod PortView
 pub mod Ports
 pub mod Noted
 pub mod Notes

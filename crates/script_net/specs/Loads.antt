@@ -1,4 +1,4 @@
--- What the files of a script make of a tree.
+-- What the files of a script make of a tree (README.md of this crate, 'How a script is played').
 use Rattle.std.specs.Prelude.{◌≡◌, ℕ, true, ◌<◌, List, [], ◌∷◌, length, get_or}
 use Rattle.lt_world.specs.Disk.{Tree}
 use Rattle.lt_world.specs.Memory.{with_file_at, with_directory_at, is_path}
@@ -6,11 +6,13 @@ use Rattle.lt_script.specs.declared.script.ScriptFile.{ScriptFile}
 use Rattle.lt_script.specs.declared.script.ScriptFile.TheVariants as file
 use Rattle.script_net.specs.Letters.{letters}
 
+-- where a file is placed
 abbrev pub path_of : ScriptFile → List ℕ
 path_of (file.Bytes path time bytes) = path
 path_of (file.Fill path time size) = path
 path_of (file.Dir path) = path
 
+-- the tree with one more file
 abbrev pub with_file : ScriptFile → Tree → Tree
 with_file (file.Bytes path time bytes) tree = with_file_at path time bytes tree
 with_file (file.Fill path time size) tree = with_file_at path time (letters size) tree

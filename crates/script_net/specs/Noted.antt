@@ -1,4 +1,4 @@
--- The notes of reads and writes.
+-- For proofs alone: the notes of reads and writes.
 use Rattle.std.specs.Prelude.{ℕ, zero, suc}
 use Rattle.lt_world.specs.declared.net.Got.{Got}
 use Rattle.lt_world.specs.declared.net.Got.TheVariants as got

@@ -7,6 +7,7 @@ use Rattle.script_net.specs.Steps.{events_left}
 use Rattle.script_net.specs.Calls.{Game, Call, start}
 use Rattle.script_net.specs.Plays.{played}
 
+-- the script, the game, and what a net counts beside it
 pub record Playing : Type 0 where
   -- the script that it plays, whole
   pub script : List Step

@@ -1,4 +1,4 @@
--- A trace that a script gives.
+-- A trace that a script gives (README.md of this crate, 'How a script is played').
 use Rattle.std.specs.Prelude.{◌≡◌, List, [], ◌∷◌}
 use Rattle.lt_world.specs.Trace.{Entry}
 use Rattle.lt_script.specs.declared.script.Step.{Step}

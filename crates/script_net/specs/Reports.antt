@@ -1,4 +1,4 @@
--- The report of a trace.
+-- The report of a trace (README.md of this crate, 'How a script is played').
 use Rattle.std.specs.Prelude.{◌≡◌, ℕ, zero, suc, List, [], ◌++◌, length, codes, Result, Ok, Err, Option, Some, None}
 use Rattle.std.specs.Fmt.{decimal}
 use Rattle.lt_bytes.specs.Quoting.{quoted}
@@ -20,12 +20,12 @@ ending_name (Some ending.NoMemory) = codes "no-memory"
 ending_name (Some ending.Gate) = codes "closed"
 
 -- a link's line up to its bytes: its name, its ending and how many bytes it took
-abbrev pub front_of : ℕ → Option Ending → ℕ → List ℕ
-front_of link how count = codes "c" ++ (decimal link ++ (codes " " ++ (ending_name how ++ (codes " " ++ (decimal count ++ codes " \"")))))
+abbrev pub line_front : ℕ → Option Ending → ℕ → List ℕ
+line_front link how count = codes "c" ++ (decimal link ++ (codes " " ++ (ending_name how ++ (codes " " ++ (decimal count ++ codes " \"")))))
 
 -- a link's line: `NAME ENDING N "BYTES"`
 abbrev pub line_of : ℕ → Option Ending → List ℕ → List ℕ
-line_of link how taken = front_of link how (length taken) ++ (quoted taken ++ codes "\"\n")
+line_of link how taken = line_front link how (length taken) ++ (quoted taken ++ codes "\"\n")
 
 -- the lines of the links below a number
 abbrev pub lines_below : ℕ → List Entry → List ℕ

@@ -1,7 +1,8 @@
--- One link as a script plays it.
+-- One link as a script plays it (README.md of this crate, 'How a script is played').
 use Rattle.std.specs.Prelude.{ℕ, ◌+◌, ◌-◌, min, Bool, true, false, List, [], ◌∷◌, ◌++◌, length, take, drop, get_or, if◌then◌else◌}
 use Rattle.lt_world.specs.Trace.{Act, Read, ReadEnd, NotYet, Failed, Reading}
 
+-- a link as the script sees it
 pub record Side : Type 0 where
   pub is_open : Bool
   -- the bytes that the script gave to it so far
@@ -23,6 +24,7 @@ fresh_side = record { is_open = true; given = []; seen = 0; ended = false; reads
 abbrev pub no_side : Side
 no_side = record { is_open = false; given = []; seen = 0; ended = false; reads_fail = false; writes_fail = false }
 
+-- the link of this number
 abbrev pub side_at : ℕ → List Side → Side
 side_at link sides = get_or sides link no_side
 
@@ -47,14 +49,18 @@ with_read size side = record side { seen = if side.reads_fail then side.seen els
 abbrev pub with_bytes : List ℕ → Side → Side
 with_bytes bytes side = record side { given = side.given ++ bytes }
 
+-- after the script ended it
 abbrev pub with_end : Side → Side
 with_end side = record side { ended = true }
 
+-- after `rfail`
 abbrev pub with_failing_reads : Side → Side
 with_failing_reads side = record side { reads_fail = true }
 
+-- after `wfail`
 abbrev pub with_failing_writes : Side → Side
 with_failing_writes side = record side { writes_fail = true }
 
+-- after it was closed
 abbrev pub with_close : Side → Side
 with_close side = record side { is_open = false }

@@ -1,4 +1,4 @@
--- What each step of a script does.
+-- What each step of a script does (README.md of this crate, 'How a script is played').
 use Rattle.std.specs.Prelude.{ℕ, ◌+◌, ◌-◌, max, Bool, true, List, [], ◌∷◌, ◌++◌, length, set, Option, Some, None, if◌then◌else◌, ◌==◌, nat_lt}
 use Rattle.lt_world.specs.declared.net.Event.{Event}
 use Rattle.lt_world.specs.declared.net.Event.TheVariants.{Arrived, Readable, Writable, Idle}
@@ -13,6 +13,7 @@ use Rattle.script_net.specs.Sides.{Side, fresh_side, side_at, with_bytes, with_e
 abbrev pub link_of : Name → ℕ → ℕ
 link_of name links = if name.gate then links else name.number
 
+-- the link of this name is open
 abbrev pub is_open_at : Name → List Side → Bool
 is_open_at name sides = (side_at (link_of name (length sides)) sides).is_open
 
@@ -45,6 +46,7 @@ event_of (step.Take name size count) links = Writable (record { 0 = link_of name
 event_of (step.WriteFail name) links = Writable (record { 0 = link_of name links })
 event_of step.Idle links = Idle
 
+-- the links, of which one is changed
 abbrev pub change : ℕ → (Side → Side) → List Side → List Side
 change link f sides = set sides link (f (side_at link sides))
 
@@ -82,9 +84,11 @@ count_of (step.Ready name count) = count
 count_of (step.Take name size count) = count
 count_of other = 1
 
+-- how many events a step is, one at least
 abbrev pub events_of : Step → ℕ
 events_of step = max (count_of step) 1
 
+-- how many events the steps are
 abbrev pub events_left : List Step → ℕ
 events_left [] = 0
 events_left (step ∷ steps) = events_of step + events_left steps
@@ -96,6 +100,6 @@ lowered played (step.Take name size count) = step.Take name size (count - played
 lowered played other = other
 
 -- the steps that are left where so many events of the first were played
-abbrev pub rest_of : ℕ → List Step → List Step
-rest_of played [] = []
-rest_of played (step ∷ steps) = lowered played step ∷ steps
+abbrev pub steps_from : ℕ → List Step → List Step
+steps_from played [] = []
+steps_from played (step ∷ steps) = lowered played step ∷ steps

@@ -7,7 +7,7 @@ ghost use Rattle.script_net.specs.Sides.{side_at, gives, with_bytes, with_end, w
 ghost use Rattle.script_net.specs.Steps.{change};
 ghost use Rattle.script_net.specs.Calls.{some_taken};
 ghost use Rattle.lt_world.specs.Acts.{output_of, ending_of};
-ghost use Rattle.script_net.specs.Told.{no_links, Tells, Stays};
+ghost use Rattle.script_net.specs.LinksView.{no_links, Tells, Stays};
 
 use crate::notes::{Done, Note, read_done, write_done};
 use crate::port::Port;
@@ -26,9 +26,9 @@ pub struct Links {
 }
 
 impl Model for Links {
-    ghost use Rattle.script_net.specs.Told.{Told};
+    ghost use Rattle.script_net.specs.LinksView.{LinksView};
 
-    ghost Value = { Told };
+    ghost Value = { LinksView };
 
     ghost use Rattle.script_net.specs.Notes.{told_of, IsTold};
 

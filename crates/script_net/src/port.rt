@@ -19,9 +19,9 @@ pub struct Port {
 }
 
 impl Model for Port {
-    ghost use Rattle.script_net.specs.Kept.{Kept};
+    ghost use Rattle.script_net.specs.PortView.{PortView};
 
-    ghost Value = { Kept };
+    ghost Value = { PortView };
 
     ghost use Rattle.script_net.specs.Ports.{kept_of, IsPort};
 
@@ -31,7 +31,7 @@ impl Model for Port {
 }
 
 impl Port {
-    ghost use Rattle.script_net.specs.Kept.{Kept, fresh_kept};
+    ghost use Rattle.script_net.specs.PortView.{PortView, fresh_kept};
     ghost use Rattle.script_net.specs.Sides.{gives, with_bytes, with_end, with_failing_reads, with_failing_writes, with_close, with_read};
 
     /// A link that arrives.

@@ -1,7 +1,7 @@
 //! What changes for one of the links.
 ghost use Rattle.std.specs.Prelude.{◌≡◌, ◌<◌, ◌≤◌, ◌+◌, ◌++◌, length, set, OnOk, OnErr, Some};
 ghost use Rattle.lt_world.specs.Answers.{read_act, GotWithin};
-ghost use Rattle.script_net.specs.Kept.{Kept, kept_at};
+ghost use Rattle.script_net.specs.PortView.{PortView, kept_at};
 ghost use Rattle.script_net.specs.Sides.{gives, with_bytes, with_end, with_failing_reads, with_failing_writes, with_close, with_read};
 
 use crate::port::Port;

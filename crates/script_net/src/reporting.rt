@@ -1,7 +1,7 @@
 //! The report: what each link took, and how it ended.
 ghost use Rattle.std.specs.Prelude.{◌≡◌, ◌≤◌, length, take, OnErr};
 ghost use Rattle.lt_world.specs.Causes.{Rose};
-ghost use Rattle.script_net.specs.Reports.{Writes, ending_name, front_of, line_of, report_of};
+ghost use Rattle.script_net.specs.Reports.{Writes, ending_name, line_front, line_of, report_of};
 
 use crate::links::Links;
 use crate::writing::{put, write_all, write_quoted};
@@ -47,7 +47,7 @@ fn write_line<S: Sink>(
 fn put_front(buf: &mut [u8], link: usize, ending: Option<Ending>, count: usize) -> usize
     requires { 64 ≤ length buf.old }
     ensures within { result ≤ length buf.new }
-    ensures text { take result buf.new ≡ front_of link ending count }
+    ensures text { take result buf.new ≡ line_front link ending count }
 {
     let n = put(buf, 0, b"c");
     let n = put(buf, n, decimal(link as u64).bytes());

@@ -1,8 +1,8 @@
 //! What the steps of a script do to the links.
 ghost use Rattle.std.specs.Prelude.{◌≡◌, ◌+◌, ◌<◌, ◌≤◌, true, List, length, drop, get_or, OnOk, OnErr, IfOk, min};
 ghost use Rattle.lt_script.specs.declared.script.Step.{Step};
-ghost use Rattle.script_net.specs.Steps.{link_of, is_open_at, is_due, skip, event_of, taker_of, count_of, rest_of, lowered, less, allowed};
-ghost use Rattle.script_net.specs.Told.{Stays, Steps};
+ghost use Rattle.script_net.specs.Steps.{link_of, is_open_at, is_due, skip, event_of, taker_of, count_of, steps_from, lowered, less, allowed};
+ghost use Rattle.script_net.specs.LinksView.{Stays, Steps};
 
 use crate::letters::letters;
 use crate::links::Links;
@@ -41,7 +41,7 @@ fn due_at(steps: &[Step], at: usize, links: &Links) -> usize
 pub fn due_from(steps: &[Step], at: usize, played: u32, links: &Links) -> (usize, u32)
     requires { at ≤ length steps.now }
     ensures within { result.0 ≤ length steps.now }
-    ensures skipped { skip links.now.sides (rest_of played (drop at steps.now)) ≡ rest_of result.1 (drop result.0 steps.now) }
+    ensures skipped { skip links.now.sides (steps_from played (drop at steps.now)) ≡ steps_from result.1 (drop result.0 steps.now) }
     ensures due { (step : Step) → result.0 < length steps.now → is_due (get_or steps.now result.0 step) links.now.sides ≡ true }
 {
     let due = due_at(steps, at, links);
@@ -160,7 +160,7 @@ pub fn affect(alloc: Global, step: &Step, links: &mut Links) -> Result<Event, No
 pub fn spend(step: &Step, at: usize, played: u32) -> (usize, u32)
     requires { at < 18446744073709551615 }
     ensures within { result.0 ≤ at + 1 }
-    ensures left { (steps : List Step) → at < length steps → get_or steps at step.now ≡ step.now → rest_of result.1 (drop result.0 steps) ≡ less (lowered played step.now) (drop (at + 1) steps) }
+    ensures left { (steps : List Step) → at < length steps → get_or steps at step.now ≡ step.now → steps_from result.1 (drop result.0 steps) ≡ less (lowered played step.now) (drop (at + 1) steps) }
 {
     let count = count(step);
     if count > 1 && played < count - 1 {

@@ -10,4 +10,4 @@ returns-then-not-is_head c = (omega arith, script_headless c.args.bytes.now c.in
 
 pub returns-else-not-is_head : goal.returns-else-not-is_head
 returns-else-not-is_head c =
-    given c.rest_of.result c.args.bytes.now c.in-Some.head.now c.in-Some.rest.now (omega arith) (sym c.in-Some.ensures.value) (search rules) c.rest_of.ensures
+    given c.read_lines.result c.args.bytes.now c.in-Some.head.now c.in-Some.rest.now (omega arith) (sym c.in-Some.ensures.value) (search rules) c.read_lines.ensures

@@ -2,7 +2,7 @@ use Rattle.std.proofs.Common.{◌≡◌, ◌++◌, ◌∷◌, [], length, arith}
 use Rattle.std.proofs.lemmas.Grind.{common_steps}
 use Rattle.script_net.specs.declared.links.Links.TheInside.{Inside}
 use Rattle.script_net.specs.declared.notes.Done.TheVariants as done
-use Rattle.script_net.specs.Kept.{fresh_kept}
+use Rattle.script_net.specs.PortView.{fresh_kept}
 use Rattle.script_net.proofs.Noting.{told_push}
 use Rattle.script_net.proofs.Telling.{tells_push}
 use Rattle.script_net.proofs.links.Links.accept.Goals as goal

@@ -1,7 +1,7 @@
 use Rattle.std.proofs.Common.{arith, refl}
 use Rattle.script_net.specs.declared.links.Links.TheInside.{Inside}
 use Rattle.script_net.specs.declared.notes.Done.TheVariants as done
-use Rattle.script_net.specs.Kept.{Kept, kept_at}
+use Rattle.script_net.specs.PortView.{PortView, kept_at}
 use Rattle.lt_world.specs.Trace.{own}
 use Rattle.script_net.specs.Notes.{trace_of}
 use Rattle.script_net.specs.Sides.{with_end}
@@ -12,13 +12,13 @@ use Rattle.script_net.proofs.links.Links.end.Goals as goal
 pub invariant_of-self : goal.invariant_of-self
 invariant_of-self c =
     let now : Inside = record { ports = c.end_at.new.ports; notes = c.push_reserved.new.self } in
-    let kept : Kept = kept_at c.args.link c.self.inside.ports.items in
+    let kept : PortView = kept_at c.args.link c.self.inside.ports.items in
     keeps_set c.self.inside now c.args.link done.Readable (record kept { side = with_end kept.side }) c.self.invariant (kept_there c.self.inside _ c.args.link c.self.view_is c.requires.known)
     c.end_at.ensures c.push_reserved.ensures.items (side_readable kept (with_end kept.side) (own c.args.link (trace_of c.self.inside.ports.items c.self.inside.notes.items)) refl (c.self.invariant.taken c.args.link) (c.self.invariant.ending c.args.link))
 
 pub returns : goal.returns
 returns c =
     let now : Inside = record { ports = c.end_at.new.ports; notes = c.push_reserved.new.self } in
-    let kept : Kept = kept_at c.args.link c.self.inside.ports.items in
+    let kept : PortView = kept_at c.args.link c.self.inside.ports.items in
     tells_set c.self.inside now _ c.args.link done.Readable (record kept { side = with_end kept.side }) with_end 0 c.self.invariant c.self.view_is (kept_there c.self.inside _ c.args.link c.self.view_is c.requires.known)
     c.end_at.ensures c.push_reserved.ensures.items (omega (arith, c.push_reserved.ensures.len, c.push_reserved.ensures.capacity)) (stays kept (with_end kept.side) refl) refl (omega arith)

@@ -2,7 +2,7 @@ use Rattle.std.proofs.Common.{◌≡◌, ◌<◌, ◌++◌, length, take, set, a
 use Rattle.lt_world.specs.Trace.{own}
 use Rattle.script_net.specs.declared.links.Links.TheInside.{Inside}
 use Rattle.script_net.specs.Noted.{write_done}
-use Rattle.script_net.specs.Kept.{Kept, kept_at}
+use Rattle.script_net.specs.PortView.{PortView, kept_at}
 use Rattle.script_net.specs.Notes.{trace_of}
 use Rattle.script_net.proofs.Noting.{begins_all}
 use Rattle.script_net.proofs.Becoming.{kept_there, keeps_set, is_kept_at, is_written, write_act_of}
@@ -17,10 +17,10 @@ pub invariant_of-self : goal.invariant_of-self
 invariant_of-self c =
     let now : Inside = record { ports = c.take_at.new.ports; notes = c.push_reserved.new.self } in
     let link = c.args.link in
-    let kept : Kept = kept_at link c.self.inside.ports.items in
+    let kept : PortView = kept_at link c.self.inside.ports.items in
     let room = (kept_at link c.take_at.new.ports.items).room in
     let below : link < length c.self.inside.ports.items = kept_there c.self.inside _ link c.self.view_is c.requires.known in
-    let at : length c.taken-at.result.now ≡ length kept.taken = ap length c.taken-at.ensures ∙ ap (λ (q : Kept). length q.taken) (is_kept_at c.self.inside.ports.items link c.index.result.now below c.index.ensures) in
+    let at : length c.taken-at.result.now ≡ length kept.taken = ap length c.taken-at.ensures ∙ ap (λ (q : PortView). length q.taken) (is_kept_at c.self.inside.ports.items link c.index.result.now below c.index.ensures) in
     let what = write_done (length c.args.bytes.now) (length c.taken-at.result.now) c.args.n in
     keeps_set c.self.inside now link what (record kept { taken = kept.taken ++ take c.args.n c.args.bytes.now; room = room }) c.self.invariant below
     (piece c) (rw c.write_done.ensures at c.push_reserved.ensures.items)
@@ -30,11 +30,11 @@ pub returns : goal.returns
 returns c =
     let now : Inside = record { ports = c.take_at.new.ports; notes = c.push_reserved.new.self } in
     let link = c.args.link in
-    let kept : Kept = kept_at link c.self.inside.ports.items in
+    let kept : PortView = kept_at link c.self.inside.ports.items in
     let room = (kept_at link c.take_at.new.ports.items).room in
-    let next : Kept = record kept { taken = kept.taken ++ take c.args.n c.args.bytes.now; room = room } in
+    let next : PortView = record kept { taken = kept.taken ++ take c.args.n c.args.bytes.now; room = room } in
     let below : link < length c.self.inside.ports.items = kept_there c.self.inside _ link c.self.view_is c.requires.known in
-    let at : length c.taken-at.result.now ≡ length kept.taken = ap length c.taken-at.ensures ∙ ap (λ (q : Kept). length q.taken) (is_kept_at c.self.inside.ports.items link c.index.result.now below c.index.ensures) in
+    let at : length c.taken-at.result.now ≡ length kept.taken = ap length c.taken-at.ensures ∙ ap (λ (q : PortView). length q.taken) (is_kept_at c.self.inside.ports.items link c.index.result.now below c.index.ensures) in
     let what = write_done (length c.args.bytes.now) (length c.taken-at.result.now) c.args.n in
     tells_act link _ _ _ c.args.n _ _ (write_act_of c.args.n (length c.taken-at.result.now) kept c.args.bytes.now room at)
     (tells_same link _ c.args.self.now.sides c.args.n _ _

@@ -1,7 +1,7 @@
 use Rattle.std.proofs.Common.{◌≡◌, ◌+◌, ◌≤◌, length}
 use Rattle.lt_script.specs.Texts.{lines_of}
 use Rattle.lt_script.specs.Scripts.{script_from, joined}
-use Rattle.lt_script.proofs.parse.rest_of.Given as goal
+use Rattle.lt_script.proofs.parse.read_lines.Given as goal
 
 abbrev pub invariant-loop-line : goal.invariant-loop-line
 invariant-loop-line l = record {

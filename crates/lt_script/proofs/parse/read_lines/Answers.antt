@@ -1,7 +1,7 @@
 use Rattle.std.proofs.Common.{◌≡◌, rules, sym, arith}
 use Rattle.lt_script.specs.Scripts.{added}
 use Rattle.lt_script.proofs.Lining.{went_bad, went_on, ended_bad}
-use Rattle.lt_script.proofs.parse.rest_of.Goals as goal
+use Rattle.lt_script.proofs.parse.read_lines.Goals as goal
 
 pub returns-in-Err-Bad : goal.returns-in-Err-Bad
 returns-in-Err-Bad c = went_bad _ c.loop-line.number c.loop-line.rest.now c.in-Some.line.now c.in-Some.next.now _ c.loop-line.invariant.reads (sym c.in-Some.ensures.value) (rw c.in-Err-Bad.field-0-is at c.in-Err-Bad.ensures)
