@@ -1,4 +1,4 @@
--- What the lexer's answers say.
+-- What the lexer's answers say (README.md of this crate, 'What is proved').
 use Rattle.std.specs.Prelude.{◌≡◌, ℕ, List, ◌++◌, take, Result, Ok, Err, if◌then◌else◌}
 use Rattle.std.specs.Str.{IsUtf8, IsValidUpTo, is_utf8}
 use Rattle.std.specs.Str.Lossy.{utf8_valid_len}
@@ -18,6 +18,7 @@ Steps s old (Err (e.NotUtf8 line)) new = ⊥
 Steps s old (Err (e.Grammar line)) new = s ≡ Err line
 Steps s old (Err e.NoMemory) new = Unit {0}
 
+-- an answer is the machine's, unless memory ran out
 abbrev pub Gives : Result (List Token) LexError → Reply → Type 0
 Gives (Ok ts) reply = reply ≡ Ok ts
 Gives (Err (e.NotUtf8 line)) reply = ⊥
@@ -37,10 +38,12 @@ Refused bytes e.NoMemory = Unit {0}
 
 -- ---- the answer as a function of the text
 
+-- the answer that a reply of the machine is
 abbrev pub given : Reply → Result (List Token) LexError
 given (Ok ts) = Ok ts
 given (Err line) = Err (e.Grammar line)
 
+-- the answer: of a text that is not UTF-8 the line of its first such byte, else what the machine replies
 abbrev pub lexed : List ℕ → Result (List Token) LexError
 lexed bytes = if is_utf8 bytes then given (run bytes 1 Nothing) else Err (e.NotUtf8 (line_of (take (utf8_valid_len bytes) bytes)))
 

@@ -3,6 +3,7 @@ use Rattle.std.specs.Prelude.{ℕ, Bool, true, false, ◌||◌, ◌&&◌, ◌==�
 use Rattle.conf_lex.specs.declared.class.Class.{Class}
 use Rattle.conf_lex.specs.declared.class.Class.TheVariants as c
 
+-- the class of a byte
 abbrev pub class : ℕ → Class
 class b =
     if b == 10 then c.Feed
@@ -36,18 +37,22 @@ in_word c.Digit = true
 in_word c.Joint = true
 in_word _ = false
 
+-- a digit
 abbrev pub is_digit : Class → Bool
 is_digit c.Digit = true
 is_digit _ = false
 
+-- a line feed
 abbrev pub is_feed : Class → Bool
 is_feed c.Feed = true
 is_feed _ = false
 
+-- any other byte than a line feed
 abbrev pub off_feed : Class → Bool
 off_feed c.Feed = false
 off_feed _ = true
 
+-- a quotation mark
 abbrev pub is_quote : Class → Bool
 is_quote c.Quote = true
 is_quote _ = false

@@ -1,4 +1,4 @@
--- On which line a token stands.
+-- On which line a token stands (lighttpd 1.4 documentation, "Configuration").
 use Rattle.std.specs.Prelude.{◌≡◌, ℕ, ◌+◌, ◌++◌, ◌==◌, List, [], ◌∷◌, min, count_by}
 use Rattle.conf_lex.specs.declared.token.Token.{Token}
 use Rattle.conf_lex.specs.Tokens.{Reads}

@@ -1,4 +1,4 @@
--- Reading by a machine that takes one byte at a time.
+-- A device: reading by a machine that takes one byte at a time, as the code does. `lexed` computes with it.
 use Rattle.std.specs.Prelude.{ℕ, ◌+◌, ◌*◌, ◌++◌, List, [], ◌∷◌, Bool, true, false, nat_lt, Option, Some, None, Result, Ok, Err, pos}
 use Rattle.std.specs.Char.{digit_value}
 use Rattle.conf_lex.specs.declared.class.Class.{Class}
@@ -14,6 +14,7 @@ use Rattle.conf_lex.specs.Tokens.{Text, at, line_after}
 abbrev pub Step : Type 0
 Step = Result (List Token × Held) ℕ
 
+-- no token ended, and this is held
 abbrev pub hold : Held → Step
 hold held = Ok ([], held)
 
@@ -21,9 +22,11 @@ hold held = Ok ([], held)
 abbrev pub Digits : Type 0
 Digits = ℕ × ℕ
 
+-- the digits with one more
 abbrev pub one_more : Digits → ℕ → Digits
 one_more ds b = (ds.0 + 1, ds.1 * 10 + digit_value b)
 
+-- a byte where nothing is held
 abbrev pub begin : Class → ℕ → ℕ → Step
 begin c.Blank b n = hold h.Nothing
 begin c.Feed b n = hold h.Nothing
@@ -43,27 +46,33 @@ abbrev pub ended : Token → Step → Step
 ended t (Ok p) = Ok (t ∷ p.0, p.1)
 ended t (Err n) = Err n
 
+-- a byte of a comment, which a line feed ends
 abbrev pub comment : Bool → Step
 comment true = hold h.Nothing
 comment false = hold h.Comment
 
+-- a byte after those of a word: one more, or the next thing
 abbrev pub word : Bool → ℕ → Text → Class → ℕ → ℕ → Step
 word true line w x b n = hold (h.Word line (w ++ b ∷ []))
 word false line w x b n = ended (at (k.Word w) line) (begin x b n)
 
+-- one more digit where there is room for it
 abbrev pub more_digits : Bool → ℕ → Digits → ℕ → Step
 more_digits true line ds b = hold (h.Number line (one_more ds b))
 more_digits false line ds b = Err line
 
+-- a byte after digits: one more, or the next thing
 abbrev pub number : Bool → ℕ → Digits → Class → ℕ → ℕ → Step
 number true line ds x b n = more_digits (nat_lt ds.0 18) line ds b
 number false line ds x b n = ended (at (k.Number (pos ds.1)) line) (begin x b n)
 
+-- a byte between quotation marks
 abbrev pub quote : Class → ℕ → Text → ℕ → Step
 quote c.Quote line t b = Ok (at (k.Text t) line ∷ [], h.Nothing)
 quote c.Backslash line t b = hold (h.Backslash line t)
 quote _ line t b = hold (h.Quote line (t ++ b ∷ []))
 
+-- a byte after a backslash between quotation marks
 abbrev pub backslash : Class → ℕ → Text → ℕ → Step
 backslash c.Quote line t b = hold (h.Quote line (t ++ 34 ∷ []))
 backslash c.Backslash line t b = hold (h.Backslash line (t ++ 92 ∷ []))
@@ -75,6 +84,7 @@ sign (Some s) a line x b n = Ok (at (k.Sign s) line ∷ [], h.Nothing)
 sign None (Some s) line x b n = ended (at (k.Sign s) line) (begin x b n)
 sign None None line x b n = Err line
 
+-- what a byte makes of what is held
 abbrev pub step : Held → Class → ℕ → ℕ → Step
 step h.Nothing x b n = begin x b n
 step h.Comment x b n = comment (is_feed x)
@@ -84,13 +94,16 @@ step (h.Quote line t) x b n = quote x line t b
 step (h.Backslash line t) x b n = backslash x line t b
 step (h.Sign line first) x b n = sign (double first x) (alone first) line x b n
 
+-- the tokens of the whole text, or the line of a token that is none
 abbrev pub Reply : Type 0
 Reply = Result (List Token) ℕ
 
+-- a sign at the end
 abbrev pub finish_sign : Option ℕ → ℕ → Reply
 finish_sign (Some s) line = Ok (at (k.Sign s) line ∷ [])
 finish_sign None line = Err line
 
+-- what is held at the end
 abbrev pub finish : Held → Reply
 finish h.Nothing = Ok []
 finish h.Comment = Ok []
@@ -100,10 +113,12 @@ finish (h.Quote line t) = Err line
 finish (h.Backslash line t) = Err line
 finish (h.Sign line first) = finish_sign (alone first) line
 
+-- tokens in front of a reply
 abbrev pub behind : List Token → Reply → Reply
 behind ts (Ok us) = Ok (ts ++ us)
 behind ts (Err n) = Err n
 
+-- a step, and then the rest
 abbrev pub next : Step → (Held → Reply) → Reply
 next (Ok p) go = behind p.0 (go p.1)
 next (Err n) go = Err n

@@ -1,4 +1,4 @@
--- A configuration text as its tokens, with blanks and comments between them.
+-- A configuration text as its tokens, with blanks and comments between them (lighttpd 1.4 documentation, "Configuration").
 use Rattle.std.specs.Prelude.{◌≡◌, ◌≢◌, ℕ, ◌+◌, ◌<◌, List, [], ◌∷◌, length, min, Bool, true, false, Some, None, Result, Ok, Err, pos}
 use Rattle.std.specs.Str.Parse.{digits_value}
 use Rattle.conf_lex.specs.declared.class.Class.{Class}
@@ -8,9 +8,11 @@ use Rattle.conf_lex.specs.declared.token.TokenKind.TheVariants as k
 use Rattle.conf_lex.specs.declared.token.Token.{Token}
 use Rattle.conf_lex.specs.Class.{class, in_word, is_digit, is_feed, off_feed, is_quote, alone, double}
 
+-- the bytes of a text
 abbrev pub Text : Type 0
 Text = List ℕ
 
+-- a token of this kind on this line
 abbrev pub at : TokenKind → ℕ → Token
 at kind line = record { kind = kind; line = line }
 
@@ -19,6 +21,7 @@ abbrev pub line_by : Bool → ℕ → ℕ
 line_by true n = min (n + 1) 4294967295
 line_by false n = n
 
+-- the line behind this byte
 abbrev pub line_after : ℕ → ℕ → ℕ
 line_after b n = line_by (is_feed (class b)) n
 

@@ -17,6 +17,3 @@ mod token;
 pub use error::LexError;
 pub use lexer::lex;
 pub use token::{Token, TokenKind, signs};
-
-#[cfg(test)]
-mod tests;

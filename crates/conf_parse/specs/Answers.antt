@@ -1,4 +1,4 @@
--- What the parser's answers say.
+-- What the parser's answers say (README.md of this crate, 'What is proved').
 use Rattle.std.specs.Prelude.{◌≡◌, ℕ, List, [], ◌∷◌, Option, Some, None, Result, Ok, Err}
 use Rattle.conf_lex.specs.declared.token.Token.{Token}
 use Rattle.conf_parse.specs.declared.tree.Tree.{Tree}
@@ -32,6 +32,7 @@ abbrev pub line_at : List Token → List Token → ℕ
 line_at tokens [] = last_line 1 tokens
 line_at tokens (x ∷ more) = x.line
 
+-- an answer is the machine's, unless memory ran out
 abbrev pub Gives : List Token → Result Tree ParseError → Reply → Type 0
 Gives tokens (Ok tree) reply = reply ≡ Ok tree.statements
 Gives tokens (Err (e.Grammar line)) reply = (rest : List Token) × (line ≡ line_at tokens rest) × (reply ≡ Err (Grammar, marks rest))
@@ -56,14 +57,17 @@ abbrev pub line_left : List Token → List Mark → ℕ
 line_left tokens [] = last_line 1 tokens
 line_left tokens (x ∷ more) = x.line
 
+-- the refusal of a fault on this line
 abbrev pub fault_at : Fault → ℕ → ParseError
 fault_at Grammar line = e.Grammar line
 fault_at Nested line = e.Deep line
 
+-- the answer that a reply of the machine is
 abbrev pub given : List Token → Reply → Result Tree ParseError
 given tokens (Ok statements) = Ok (record { statements = statements })
 given tokens (Err p) = Err (fault_at p.0 (line_left tokens p.1))
 
+-- the answer, with 64 levels
 abbrev pub parsed : List Token → Result Tree ParseError
 parsed tokens = given tokens (run (marks tokens) (start 64))
 

@@ -19,15 +19,19 @@ use Rattle.conf_parse.specs.declared.tree.RawCondition.{RawCondition}
 use Rattle.conf_parse.specs.declared.tree.Tree.{Tree}
 use Rattle.conf_parse.specs.Symbols.{Text, Mark, at, sign, marks, var_dot, IsKey}
 
+-- an item of an array, with its key if it has one
 abbrev pub item_of : Option Text → List Term → Item
 item_of key value = roll-Item (record { key = key; value = value })
 
+-- a statement on this line
 abbrev pub statement : ℕ → What → Statement
 statement line what = roll-Statement (record { line = line; what = what })
 
+-- a branch on this line; the last one of a chain may have no condition
 abbrev pub branch : ℕ → Option RawCondition → List Statement → Branch
 branch line condition body = roll-Branch (record { line = line; condition = condition; body = body })
 
+-- a condition: group, name, operator and text
 abbrev pub condition_of : Text → Text → Op → Text → RawCondition
 condition_of group name op text = record { group = group; name = name; op = op; text = text }
 
@@ -55,6 +59,7 @@ mutual
     one : {d : ℕ} {v : Term} {ts r : List Mark} → IsValue d v ts r → IsSum d (v ∷ []) ts r
     sum : {d l : ℕ} {v : Term} {vs : List Term} {ts mid r : List Mark} → IsValue d v ts (sign g.Plus l ∷ mid) → IsSum d vs mid r → IsSum d (v ∷ vs) ts r
 
+-- `+=` adds, `=` sets
 abbrev pub assign_of : Bool → Sign
 assign_of true = g.Append
 assign_of false = g.Assign

@@ -1,4 +1,4 @@
--- Where tokens are refused.
+-- Where tokens are refused (lighttpd 1.4 documentation, "Configuration").
 use Rattle.std.specs.Prelude.{◌≡◌, ℕ, suc, ◌++◌, List, [], ◌∷◌}
 use Rattle.conf_lex.specs.declared.token.Token.{Token}
 use Rattle.conf_parse.specs.declared.symbol.Sign.TheVariants as g
@@ -18,6 +18,7 @@ abbrev pub StopsAt : ℕ → List Token → List Token → Type 0
 StopsAt room front [] = (tree : Tree) → Spells room tree front → ⊥
 StopsAt room front (x ∷ others) = GoesOn room (front ++ x ∷ []) → ⊥
 
+-- the terminal opens a block or an array
 abbrev pub IsOpening : Symbol → Type 0
 IsOpening (s.Sign g.OpenBlock) = Unit {0}
 IsOpening (s.Sign g.OpenArray) = Unit {0}
@@ -30,6 +31,7 @@ Because Grammar room front rest = (d : ℕ) → StopsAt d front rest
 Because Nested room front [] = ⊥
 Because Nested room front (x ∷ others) = IsOpening (symbol_of x.kind) × GoesOn (suc room) (front ++ x ∷ []) × (GoesOn room (front ++ x ∷ []) → ⊥)
 
+-- the tokens are refused at the first of the rest, for this fault
 pub record Refusal (room : ℕ) (tokens : List Token) (fault : Fault) (rest : List Token) : Type 0 where
   pub front : List Token
   pub split : tokens ≡ front ++ rest

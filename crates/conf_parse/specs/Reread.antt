@@ -1,4 +1,4 @@
--- A printed tree that is read again.
+-- A printed tree that is read again (README.md of this crate, `printed_is_reread`).
 use Rattle.std.specs.Prelude.{ℕ, List, []}
 use Rattle.std.specs.Str.{IsUtf8}
 use Rattle.conf_lex.specs.declared.token.Token.{Token}

@@ -1,4 +1,4 @@
--- Trees that are equal except for their line numbers.
+-- Trees that are equal except for their line numbers: what a printed tree and the tree that is read from it share.
 use Rattle.std.specs.Prelude.{ℕ, List, [], ◌∷◌, Option, Bool}
 use Rattle.conf_parse.specs.declared.tree.Term.{Term}
 use Rattle.conf_parse.specs.declared.tree.Statement.{Statement}
@@ -24,5 +24,6 @@ mutual
     more_branches : (l m : ℕ) (condition : Option RawCondition) {xs ys : List Statement} {bs cs : List Branch} → SameStatements xs ys → SameBranches bs cs
         → SameBranches (branch l condition xs ∷ bs) (branch m condition ys ∷ cs)
 
+-- the same statements, whatever their lines
 abbrev pub SameButLines : Tree → Tree → Type 0
 SameButLines a b = SameStatements a.statements b.statements

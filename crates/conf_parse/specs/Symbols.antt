@@ -14,6 +14,7 @@ use Rattle.conf_parse.specs.declared.symbol.Role.TheVariants as r
 use Rattle.conf_parse.specs.declared.symbol.Symbol.{Symbol}
 use Rattle.conf_parse.specs.declared.symbol.Symbol.TheVariants as s
 
+-- the bytes of a text
 abbrev pub Text : Type 0
 Text = List ℕ
 
@@ -44,6 +45,7 @@ sign_of n =
 abbrev pub begins : Bool
 begins = true
 
+-- an empty part, where one begins here or not
 abbrev pub has_empty_part : Bool → Text → Bool
 has_empty_part fresh [] = fresh
 has_empty_part fresh (b ∷ w) = if b == 46 then fresh || has_empty_part true w else has_empty_part false w
@@ -59,10 +61,12 @@ role_of w =
     else if list_any (λ b. b == 46) w then r.Setting
     else r.Bare
 
+-- a sign that is one of these, or an unknown one
 abbrev pub known : Option Sign → Symbol
 known (Some x) = s.Sign x
 known None = s.Unknown
 
+-- the terminal that a token is
 abbrev pub symbol_of : TokenKind → Symbol
 symbol_of (k.Word w) = s.Word (role_of w) w
 symbol_of (k.Text t) = s.Text t
@@ -74,15 +78,19 @@ pub record Mark : Type 0 where
   pub symbol : Symbol
   pub line : ℕ
 
+-- a terminal on this line
 abbrev pub at : Symbol → ℕ → Mark
 at x line = record { symbol = x; line = line }
 
+-- a sign on this line
 abbrev pub sign : Sign → ℕ → Mark
 sign x line = at (s.Sign x) line
 
+-- a token as its terminal
 abbrev pub mark : Token → Mark
 mark t = at (symbol_of t.kind) t.line
 
+-- tokens as their terminals
 abbrev pub marks : List Token → List Mark
 marks = map mark
 

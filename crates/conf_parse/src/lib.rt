@@ -21,6 +21,3 @@ pub use error::ParseError;
 pub use parser::{MAX_NESTING, parse};
 pub use statements::print;
 pub use tree::{Branch, Item, RawCondition, Statement, Term, Tree, What};
-
-#[cfg(test)]
-mod tests;
