@@ -1,6 +1,7 @@
 -- How clients are closed where no line of a script makes a read or a write fail.
 use Rattle.std.proofs.Common.{◌≡◌, ℕ, List, [], ◌∷◌, Bool, true, false, ◌&&◌, ◌||◌, ◌==◌, if◌then◌else◌, refl, sym, ap, subst, ◌∙◌}
 use Rattle.std.specs.List.{list_any}
+use Rattle.lt_world.specs.Acts.{is_deed}
 use Rattle.lt_world.specs.declared.files.Call.{Call}
 use Rattle.lt_world.specs.declared.net.Ending.{Ending}
 use Rattle.lt_world.specs.declared.net.Ending.TheVariants as ending
@@ -13,7 +14,7 @@ use Rattle.script_net.specs.Playing.{Playing, unplayed, IsLater}
 use Rattle.script_net.specs.Failing.{IsCalm, is_failure, NoneFailed}
 use Rattle.script_net.proofs.Calm.{calm_never_fails}
 use Rattle.server_model.specs.Site.{Site}
-use Rattle.server_model.specs.Deeds.{Deed, Ours, is_deed, own, ours}
+use Rattle.server_model.specs.Deeds.{Deed, Ours, own, ours}
 use Rattle.server_model.specs.Client.{has_failed}
 use Rattle.server_model.specs.Causes.{IsCause}
 use Rattle.lighttpd.specs.Runs.{Served}
@@ -29,7 +30,7 @@ unfailed_by false act deeds rest none before = before (or_right (is_failure act)
 unfailed_by true (Accepted peer local) deeds rest none before = before none
 unfailed_by true Readable deeds rest none before = before none
 unfailed_by true Writable deeds rest none before = before none
-unfailed_by true (Read bytes) deeds rest none before = before none
+unfailed_by true (Read asked bytes) deeds rest none before = before none
 unfailed_by true ReadEnd deeds rest none before = before none
 unfailed_by true (NotYet way) deeds rest none before = before none
 unfailed_by true (Failed way) deeds rest none before = absurd (cc (none))

@@ -1,13 +1,14 @@
 -- A run, turn by turn.
 use Rattle.std.proofs.Common.{◌≡◌, ℕ, List, [], ◌∷◌, arith, ap, refl, sym, subst, ◌∙◌, inl, inr}
 use Rattle.std.specs.Prelude.{Option, Some, None}
+use Rattle.lt_world.specs.Acts.{ending_of}
 use Rattle.lt_world.specs.declared.files.Call.{Call}
 use Rattle.lt_world.specs.Disk.{Disk, Tree, own_calls}
 use Rattle.lt_world.specs.Trace.{Entry}
 use Rattle.server_model.specs.Site.{Site}
 use Rattle.server_model.specs.World.{side_of, world_of}
 use Rattle.server_model.specs.Deeds.{own, ours}
-use Rattle.server_model.specs.Client.{ending_of, stream, IsServedRight}
+use Rattle.server_model.specs.Client.{stream, IsServedRight}
 use Rattle.server_model.specs.Held.{Held, Serving, kept_at}
 use Rattle.server_model.specs.Serves.{Serves}
 use Rattle.server_model.proofs.Settled.{stands_right}

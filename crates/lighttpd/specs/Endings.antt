@@ -1,9 +1,9 @@
 -- How clients are closed where nothing fails.
 use Rattle.std.specs.Prelude.{◌≡◌, ℕ, List, Some}
+use Rattle.lt_world.specs.Acts.{ending_of}
 use Rattle.lt_world.specs.declared.net.Ending.{Ending}
 use Rattle.lt_world.specs.declared.net.Ending.TheVariants as ending
 use Rattle.lt_world.specs.Trace.{Entry}
-use Rattle.server_model.specs.Client.{ending_of}
 use Rattle.server_model.specs.Deeds.{own, ours}
 
 -- clean, as one too many, or for want of memory

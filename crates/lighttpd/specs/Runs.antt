@@ -1,5 +1,6 @@
 -- How a run finishes, and what it means for each client.
 use Rattle.std.specs.Prelude.{◌≡◌, ℕ, List, [], Option, Some}
+use Rattle.lt_world.specs.Acts.{ending_of}
 use Rattle.lt_world.specs.declared.net.NextKind.{NextKind}
 use Rattle.lt_world.specs.declared.net.NextKind.TheVariants as kind
 use Rattle.lt_world.specs.declared.net.Ending.{Ending}
@@ -8,7 +9,7 @@ use Rattle.lt_world.specs.declared.files.Call.{Call}
 use Rattle.lt_world.specs.Disk.{Disk, Tree, own_calls}
 use Rattle.lt_world.specs.Trace.{Entry}
 use Rattle.server_model.specs.Site.{Site}
-use Rattle.server_model.specs.Client.{ending_of, IsServedRight}
+use Rattle.server_model.specs.Client.{IsServedRight}
 use Rattle.server_model.specs.World.{side_of}
 use Rattle.server_model.specs.Deeds.{own, ours}
 use Rattle.server_model.specs.Runs.{Told, IsRun}

@@ -29,11 +29,13 @@ impl<W: Write> Sink for OutSink<W> {
 
     ghost faults = { λ sink. sink.faults };
 
-    ghost later = { λ _ _. Unit {0} };
+    ghost later = { λ a b. a.faults ≤ b.faults };
 
-    ghost later_same = { λ _. tt };
+    ghost later_same = { λ sink. le_refl sink.faults };
 
-    ghost later_later = { λ _ _ _ _ _. tt };
+    ghost later_later = { λ a b c ab bc. le_trans ab bc };
+
+    ghost later_faults = { λ a b later. later };
 
     fn write(&mut self, piece: &[u8]) -> Result<usize, Fault> {
         match self.out.write(piece) {

@@ -3,6 +3,7 @@ use Rattle.std.proofs.Common.{inl, inr, ◌+◌, ◌<◌, length, length-append,
 use Rattle.std.specs.Prelude.{Result, Ok, Err}
 use Rattle.std.proofs.lemmas.List.{append-nil, map-append, take-append-le}
 use Rattle.std.proofs.lemmas.Bool.{cases_eq, cases_lt}
+use Rattle.lt_world.specs.Acts.{input_of, output_of}
 use Rattle.lt_world.specs.declared.files.FileCall.{FileCall}
 use Rattle.lt_world.specs.Disk.{Table}
 use Rattle.lt_world.specs.Trace.{Act}
@@ -18,7 +19,7 @@ use Rattle.server_model.specs.Request.{Head, Request, Refused, Declined, Complet
 use Rattle.server_model.specs.World.{World, call_count}
 use Rattle.server_model.specs.Reply.{Whole, Reply, continue_of, reply}
 use Rattle.server_model.specs.Stream.{Passed, reply_at, left_after, replies_to}
-use Rattle.server_model.specs.Client.{input_of, output_of, IsPlanned, AskedInTurn}
+use Rattle.server_model.specs.Client.{IsPlanned, AskedInTurn}
 use Rattle.chunkqueue.specs.Items.{Item, Byte, bytes_of, item_byte, Shows}
 use Rattle.server_model.specs.Held.{Stage, Awaiting, Heading, Taking, Asking, Answering, Held}
 use Rattle.server_model.specs.Steps.{number_of, has_no_items, looked_at, looked, fed_at, advanced_at, advanced, accepted_at, accepted, answered}

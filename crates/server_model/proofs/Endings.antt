@@ -2,6 +2,7 @@
 use Rattle.std.proofs.Common.{◌≡◌, ◌⊎◌, ℕ, ◌≤◌, List, [], ◌∷◌, Bool, true, false, ◌&&◌, ◌==◌, if◌then◌else◌, Option, Some, None, refl, sym, ◌∙◌, ap, subst, arith, inl, inr}
 use Rattle.std.proofs.lemmas.Bool.{cases_eq}
 use Rattle.std.proofs.lemmas.Option.{same_Some}
+use Rattle.lt_world.specs.Acts.{is_deed, ending_of}
 use Rattle.lt_world.specs.Causes.{Rose}
 use Rattle.lt_world.specs.declared.net.Address.{Address}
 use Rattle.lt_world.specs.declared.net.Ending.{Ending}
@@ -9,9 +10,9 @@ use Rattle.lt_world.specs.declared.net.Ending.TheVariants as ending
 use Rattle.lt_world.specs.Trace.{Act, Entry, Accepted, Readable, Writable, Read, ReadEnd, NotYet, Failed, Wrote, Connect, Close}
 use Rattle.server_model.specs.Site.{Site}
 use Rattle.server_model.specs.World.{World}
-use Rattle.server_model.specs.Deeds.{Deed, Ours, is_deed, own, ours, told}
+use Rattle.server_model.specs.Deeds.{Deed, Ours, own, ours, told}
 use Rattle.server_model.specs.Open.{open_clients}
-use Rattle.server_model.specs.Client.{ending_of, has_failed}
+use Rattle.server_model.specs.Client.{has_failed}
 use Rattle.server_model.specs.Causes.{IsCause}
 use Rattle.server_model.specs.Due.{Settles, rests, finishes, fails, yields, DueArrival, comes, refused, full, DueRead, DueWrite, Due}
 use Rattle.server_model.specs.Turns.{Seen, ReadFailed, Part, all_told, DueParts}
@@ -69,7 +70,7 @@ due : (open_now : ℕ) (event : Act) (failed : ℕ → Type 0) (before after : W
 due open_now (Accepted peer local) failed before after past now e d is = inr (arrived open_now peer local past now ((k : ℕ) × failed k) e d is)
 due open_now Readable failed before after past now e d is = read_due before after past now ((k : ℕ) × failed k) e d is
 due open_now Writable failed before after past now e d is = write_due failed before after past now e d is
-due open_now (Read bytes) failed before after past now e d is = absurd d
+due open_now (Read asked bytes) failed before after past now e d is = absurd d
 due open_now ReadEnd failed before after past now e d is = absurd d
 due open_now (NotYet way) failed before after past now e d is = absurd d
 due open_now (Failed way) failed before after past now e d is = absurd d
@@ -83,7 +84,7 @@ failed_by : (t : Bool) (act : Act) (deeds : List Deed) → has_failed (ours deed
 failed_by true (Accepted peer local) deeds failed = failed
 failed_by true Readable deeds failed = failed
 failed_by true Writable deeds failed = failed
-failed_by true (Read bytes) deeds failed = failed
+failed_by true (Read asked bytes) deeds failed = failed
 failed_by true ReadEnd deeds failed = failed
 failed_by true (NotYet way) deeds failed = failed
 failed_by true (Failed way) deeds failed = refl

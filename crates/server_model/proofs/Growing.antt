@@ -1,6 +1,7 @@
 -- What a client was to get begins what it is to get later.
 use Rattle.std.proofs.Common.{◌≡◌, ◌≢◌, ℕ, ◌+◌, ◌<◌, ◌≤◌, List, [], ◌∷◌, ◌++◌, length, Bool, true, false, ◌&&◌, if◌then◌else◌, refl, sym, ◌∙◌, ap, subst, arith, append_assoc, length-append, Some}
 use Rattle.std.proofs.lemmas.List.{append-nil}
+use Rattle.lt_world.specs.Acts.{input_of}
 use Rattle.lt_world.specs.declared.files.FileCall.{FileCall}
 use Rattle.lt_world.specs.declared.files.FileCall.TheVariants as call
 use Rattle.lt_world.specs.Disk.{is_kind}
@@ -11,7 +12,7 @@ use Rattle.server_model.specs.World.{World, owner_at, has_failed_call, with_call
 use Rattle.server_model.specs.Plan.{sought_by, sought, places_of, outcome, is_served}
 use Rattle.server_model.specs.Reply.{continue_of, planned_reply, reply, replies}
 use Rattle.server_model.specs.Stream.{IsPrefix, is_followed, joined, Passed, replies_to, stream_of}
-use Rattle.server_model.specs.Client.{input_of, stream}
+use Rattle.server_model.specs.Client.{stream}
 use Rattle.server_model.proofs.Requests.{is_complete_front, open_keeps, complete_grows, refused_grows, declined_grows, rest_grows}
 use Rattle.server_model.proofs.Replying.{next_reply, followed_complete, headed_begins, following, lasts, passed_world, passed_stream}
 use Rattle.server_model.proofs.Calls.{and_false, other_owner, unlogged}
@@ -126,7 +127,7 @@ pub stream_act : (world : World) (act : Act) (acts : List Act) → IsPrefix (str
 stream_act world (Accepted peer local) acts = same_prefix (stream world acts)
 stream_act world Readable acts = same_prefix (stream world acts)
 stream_act world Writable acts = same_prefix (stream world acts)
-stream_act world (Read bytes) acts = stream_more world (input_of acts) bytes
+stream_act world (Read asked bytes) acts = stream_more world (input_of acts) bytes
 stream_act world ReadEnd acts = same_prefix (stream world acts)
 stream_act world (NotYet way) acts = same_prefix (stream world acts)
 stream_act world (Failed way) acts = same_prefix (stream world acts)

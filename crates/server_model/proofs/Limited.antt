@@ -45,7 +45,7 @@ reads_same : (act : Act) → IsReadAct act → (n : ℕ) → counted act n ≡ n
 reads_same (Accepted peer local) is n = absurd is
 reads_same Readable is n = absurd is
 reads_same Writable is n = absurd is
-reads_same (Read bytes) is n = refl
+reads_same (Read asked bytes) is n = refl
 reads_same ReadEnd is n = refl
 reads_same (NotYet way) is n = refl
 reads_same (Failed way) is n = refl
@@ -57,7 +57,7 @@ writes_same : (owed : List ℕ) (act : Act) → IsWriteAct owed act → (n : ℕ
 writes_same owed (Accepted peer local) is n = absurd is
 writes_same owed Readable is n = absurd is
 writes_same owed Writable is n = absurd is
-writes_same owed (Read bytes) is n = absurd is
+writes_same owed (Read asked bytes) is n = absurd is
 writes_same owed ReadEnd is n = absurd is
 writes_same owed (NotYet way) is n = refl
 writes_same owed (Failed way) is n = refl
@@ -109,7 +109,7 @@ module _ (client : ℕ) (deeds : List Deed) (old now : List Entry) (are : AreDee
   due_within (Accepted peer local) failed before after due gains = arrives_within peer local due gains
   due_within Readable failed before after due gains = stays_within Readable (own client old) refl refl (read_none before after (own client old) (own client now) due) gains
   due_within Writable failed before after due gains = stays_within Writable (own client old) refl refl (write_none failed before after (own client old) (own client now) due) gains
-  due_within (Read bytes) failed before after due gains = absurd due
+  due_within (Read asked bytes) failed before after due gains = absurd due
   due_within ReadEnd failed before after due gains = absurd due
   due_within (NotYet way) failed before after due gains = absurd due
   due_within (Failed way) failed before after due gains = absurd due

@@ -2,6 +2,7 @@
 use Rattle.std.proofs.Common.{inl, inr, ◌+◌, ◌-◌, ◌<◌, length, length-drop, length-take, ◌≡◌, ℕ, List, [], ◌∷◌, ◌++◌, true, false, not, ◌&&◌, None, take, drop, refl, sym, ◌∙◌, ap, subst, arith, append_assoc, take-append-drop}
 use Rattle.std.proofs.lemmas.List.{append-nil, drop-map, drop-take, nil_from_length}
 use Rattle.std.proofs.lemmas.Bool.{cases_lt}
+use Rattle.lt_world.specs.Acts.{input_of, output_of}
 use Rattle.lt_world.specs.declared.net.Address.{Address}
 use Rattle.lt_world.specs.declared.files.FileCall.{FileCall}
 use Rattle.lt_world.specs.Disk.{Table}
@@ -11,7 +12,7 @@ use Rattle.server_model.specs.Request.{Head, Request, Unfinished, Refused, Open,
 use Rattle.server_model.specs.World.{World, call_count}
 use Rattle.server_model.specs.Reply.{Whole, Reply, continue_of, reply}
 use Rattle.server_model.specs.Stream.{is_whole, is_followed, Passed, reply_at, left_after, replies_to}
-use Rattle.server_model.specs.Client.{input_of, output_of, IsPlanned, AskedInTurn}
+use Rattle.server_model.specs.Client.{IsPlanned, AskedInTurn}
 use Rattle.chunkqueue.specs.Items.{Item, bytes_of, item_byte, Shows}
 use Rattle.server_model.specs.Held.{Stage, Awaiting, Heading, Taking, Asking, Answering, Held}
 use Rattle.server_model.specs.Steps.{arrived, received, received_end, has_no_items, took, staged, without_file, is_read_at}
@@ -208,8 +209,8 @@ module _ (opened : Table) (world : World) (held : Held) (acts : List Act) (m : M
   }
 
 -- bytes came
-module _ (opened : Table) (world : World) (held : Held) (acts : List Act) (bytes : List ℕ) where
-  at_received : (s : Stage) → is_read_at s ≡ true → IsWaitingAt s held.input held.owed → IsAt opened world held acts s → IsAt opened world (received held bytes) (Read bytes ∷ acts) s
+module _ (opened : Table) (world : World) (held : Held) (acts : List Act) (asked : ℕ) (bytes : List ℕ) where
+  at_received : (s : Stage) → is_read_at s ≡ true → IsWaitingAt s held.input held.owed → IsAt opened world held acts s → IsAt opened world (received held bytes) (Read asked bytes ∷ acts) s
   at_received (Awaiting k) is w at = record {
     passed = passed_grows world (input_of acts) k (output_of acts) at.passed bytes;
     input = ap (λ l. l ++ bytes) at.input ∙ sym (left_grows world (input_of acts) k (output_of acts) at.passed bytes);
@@ -261,14 +262,14 @@ module _ (opened : Table) (world : World) (held : Held) (acts : List Act) (bytes
         input = λ follows. ap (λ l. l ++ bytes) (at.input follows) ∙ sym (left_grows world (input_of acts) (k + 1) (at.before ++ (next_reply world (input_of acts) k).bytes) further bytes);
       }
 
-  pub matches_received : is_read_at held.stage ≡ true → IsWaiting held → Matches opened world held acts → Matches opened world (received held bytes) (Read bytes ∷ acts)
+  pub matches_received : is_read_at held.stage ≡ true → IsWaiting held → Matches opened world held acts → Matches opened world (received held bytes) (Read asked bytes ∷ acts)
   matches_received is w m = record {
     is_open = m.is_open;
     sound = m.sound;
     came = m.came;
     ended = m.ended;
     at = at_received held.stage is w m.at;
-    in_turn = turn_grows world acts (Read bytes ∷ acts) bytes [] refl (sym (append-nil (output_of acts))) m.in_turn;
+    in_turn = turn_grows world acts (Read asked bytes ∷ acts) bytes [] refl (sym (append-nil (output_of acts))) m.in_turn;
     unasked = m.unasked;
   }
 

@@ -1,8 +1,9 @@
 -- What deeds of one client, on top of a trace, make of each client's own list.
 use Rattle.std.proofs.Common.{◌≡◌, ◌≢◌, ℕ, List, [], ◌∷◌, ◌++◌, Bool, true, false, ◌&&◌, ◌==◌, if◌then◌else◌, refl, sym, ◌∙◌, ap, arith}
 use Rattle.std.proofs.lemmas.Bool.Decides.{nat_tests}
+use Rattle.lt_world.specs.Acts.{is_deed}
 use Rattle.lt_world.specs.Trace.{Act, Entry, own as link_acts, names}
-use Rattle.server_model.specs.Deeds.{Deed, Ours, is_deed, own, ours, told, AreDeeds, deeds_in}
+use Rattle.server_model.specs.Deeds.{Deed, Ours, own, ours, told, AreDeeds, deeds_in}
 
 pub own_entry : (client : ℕ) (act : Act) (trace : List Entry) → is_deed act ≡ true → own client (record { link = client; act = act } ∷ trace) ≡ Ours act ∷ own client trace
 own_entry client act trace is = grind (arith, nat_tests, is)

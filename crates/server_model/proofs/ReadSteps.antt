@@ -41,20 +41,20 @@ module _ (site : Site) (held : Held) (net files : Type 0) (before : Disk) where
         ))
 
     -- memory is wanted for what came
-    pub read_yields : (new : Held) (bytes : List ℕ) → (net → now ≡ told held.link (Ours (Read bytes) ∷ []) old) → new.link ≡ held.link → new.file ≡ held.file → StopsBy Stands DueRead site held new ending.NoMemory net files before before old now
-    read_yields new bytes gains link file = step_stops Stands DueRead site held net files before old now ending.NoMemory new (Ours (Read bytes) ∷ []) (refl, tt) gains (λ trace. refl) link file
+    pub read_yields : (new : Held) (asked : ℕ) (bytes : List ℕ) → (net → now ≡ told held.link (Ours (Read asked bytes) ∷ []) old) → new.link ≡ held.link → new.file ≡ held.file → StopsBy Stands DueRead site held new ending.NoMemory net files before before old now
+    read_yields new asked bytes gains link file = step_stops Stands DueRead site held net files before old now ending.NoMemory new (Ours (Read asked bytes) ∷ []) (refl, tt) gains (λ trace. refl) link file
         (λ f past s. (
-          matches_right before.table (world_of site before held.link past) (received held bytes) (Read bytes ∷ ours past) (matches_received before.table (world_of site before held.link past) held (ours past) bytes (wants_reads held is) s),
+          matches_right before.table (world_of site before held.link past) (received held bytes) (Read asked bytes ∷ ours past) (matches_received before.table (world_of site before held.link past) held (ours past) asked bytes (wants_reads held is) s),
           (λ e. absurd (cc (e))),
-          DueRead.reads (Read bytes) (stands_wants before.table (world_of site before held.link past) held (ours past) s ∙ is) tt (Settles.yields refl),
+          DueRead.reads (Read asked bytes) (stands_wants before.table (world_of site before held.link past) held (ours past) s ∙ is) tt (Settles.yields refl),
         ))
 
     -- bytes came, and then what follows
-    pub read_then : (after : Disk) (new : Held) (result : Option Ending) (bytes : List ℕ) → (net → now ≡ told held.link (Ours (Read bytes) ∷ []) old)
+    pub read_then : (after : Disk) (new : Held) (result : Option Ending) (asked : ℕ) (bytes : List ℕ) → (net → now ≡ told held.link (Ours (Read asked bytes) ∷ []) old)
         → SettlesTo true site (received held bytes) new result files before after → GoesBy Stands DueRead site held new result net files before after old now
-    read_then after new result bytes gains settles = then_settles Stands DueRead true site held (received held bytes) new net files before after old now (Ours (Read bytes) ∷ []) (refl, tt) gains (λ trace. refl) refl refl
-        (λ f past s. matches_received before.table (world_of site before held.link past) held (ours past) bytes (wants_reads held is) s)
-        (λ f past all s settles. DueRead.reads (Read bytes) (stands_wants before.table (world_of site before held.link past) held (ours past) s ∙ is) tt settles)
+    read_then after new result asked bytes gains settles = then_settles Stands DueRead true site held (received held bytes) new net files before after old now (Ours (Read asked bytes) ∷ []) (refl, tt) gains (λ trace. refl) refl refl
+        (λ f past s. matches_received before.table (world_of site before held.link past) held (ours past) asked bytes (wants_reads held is) s)
+        (λ f past all s settles. DueRead.reads (Read asked bytes) (stands_wants before.table (world_of site before held.link past) held (ours past) s ∙ is) tt settles)
         result settles
 
     -- the end came, and then what follows

@@ -4,6 +4,7 @@ use Rattle.std.proofs.lemmas.List.{append-nil, length-map}
 use Rattle.std.proofs.lemmas.Bool.{cases_lt}
 use Rattle.std.proofs.lemmas.Bool.Decides.{nat_tests}
 use Rattle.std.proofs.Math.Seq.{drop-append_seam}
+use Rattle.lt_world.specs.Acts.{input_of, output_of, ending_of}
 use Rattle.lt_world.specs.declared.net.Ending.{Ending}
 use Rattle.lt_world.specs.declared.net.Ending.TheVariants as ending
 use Rattle.lt_world.specs.Disk.{Table}
@@ -17,7 +18,7 @@ use Rattle.server_model.specs.World.{World}
 use Rattle.server_model.specs.Reply.{Whole, Reply, no_reply, continue_of, reply}
 use Rattle.server_model.specs.Stream.{IsPrefix, is_whole, is_followed, joined, Place, place, remainder, reply_at, left_after, replies_to}
 use Rattle.server_model.specs.Deeds.{Deed, Ours, ours}
-use Rattle.server_model.specs.Client.{input_of, output_of, has_ended, is_open, ending_of, stream, current, owed, is_last, is_full, unanswered, wants, owes, is_end, input_limit, IsFinished, IsRight, IsServedRight}
+use Rattle.server_model.specs.Client.{has_ended, is_open, stream, current, owed, is_last, is_full, unanswered, wants, owes, is_end, input_limit, IsFinished, IsRight, IsServedRight}
 use Rattle.chunkqueue.specs.Items.{Item, bytes_of, item_byte}
 use Rattle.server_model.specs.Held.{Stage, Awaiting, Heading, Taking, Asking, Answering, Held}
 use Rattle.server_model.specs.Steps.{number_of, has_no_items, is_done_at, is_read_at}
@@ -323,7 +324,7 @@ open_has_no_ending [] is = absurd (cc (is))
 open_has_no_ending (Accepted peer local ∷ acts) is = refl
 open_has_no_ending (Readable ∷ acts) is = open_has_no_ending acts is
 open_has_no_ending (Writable ∷ acts) is = open_has_no_ending acts is
-open_has_no_ending (Read bytes ∷ acts) is = open_has_no_ending acts is
+open_has_no_ending (Read asked bytes ∷ acts) is = open_has_no_ending acts is
 open_has_no_ending (ReadEnd ∷ acts) is = open_has_no_ending acts is
 open_has_no_ending (NotYet way ∷ acts) is = open_has_no_ending acts is
 open_has_no_ending (Failed way ∷ acts) is = open_has_no_ending acts is

@@ -11,7 +11,7 @@ pub side_stays : (act : Act) (side : Side) → is_arrival act ≡ false → side
 side_stays (Accepted peer local) side isnt = absurd (cc (isnt))
 side_stays Readable side isnt = refl
 side_stays Writable side isnt = refl
-side_stays (Read bytes) side isnt = refl
+side_stays (Read asked bytes) side isnt = refl
 side_stays ReadEnd side isnt = refl
 side_stays (NotYet way) side isnt = refl
 side_stays (Failed way) side isnt = refl
@@ -29,7 +29,7 @@ came_side peer local (Ours act ∷ deeds) came = by (came_side peer local deeds)
     by rest (Accepted from to) c = (λ i. Some (record { peer = c.0 i; local = c.1 i }))
     by rest Readable c = rest c
     by rest Writable c = rest c
-    by rest (Read bytes) c = rest c
+    by rest (Read asked bytes) c = rest c
     by rest ReadEnd c = rest c
     by rest (NotYet way) c = rest c
     by rest (Failed way) c = rest c

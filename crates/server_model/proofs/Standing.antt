@@ -57,8 +57,8 @@ module _ (opened : Table) (world : World) (held : Held) (acts : List Act) where
   stands_staged bytes shows some s = record { matches = moves.matches_staged opened world held acts bytes shows s.matches some; waiting = s.waiting; unfinished = s.unfinished }
 
   -- bytes came, or their end
-  pub matches_received : (bytes : List ℕ) → is_read_at held.stage ≡ true → Stands opened world held acts → Matches opened world (received held bytes) (Read bytes ∷ acts)
-  matches_received bytes is s = moves.matches_received opened world held acts bytes is s.waiting s.matches
+  pub matches_received : (asked : ℕ) (bytes : List ℕ) → is_read_at held.stage ≡ true → Stands opened world held acts → Matches opened world (received held bytes) (Read asked bytes ∷ acts)
+  matches_received asked bytes is s = moves.matches_received opened world held acts asked bytes is s.waiting s.matches
 
   pub matches_end : is_read_at held.stage ≡ true → Stands opened world held acts → Matches opened world (received_end held) (ReadEnd ∷ acts)
   matches_end is s = moves.matches_end opened world held acts s.matches

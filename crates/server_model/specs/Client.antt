@@ -4,6 +4,7 @@ use Rattle.lt_world.specs.declared.net.Address.{Address}
 use Rattle.lt_world.specs.declared.net.Ending.{Ending}
 use Rattle.lt_world.specs.declared.net.Ending.TheVariants as ending
 use Rattle.lt_world.specs.declared.files.FileCall.{FileCall}
+use Rattle.lt_world.specs.Acts.{input_of, output_of, ending_of}
 use Rattle.lt_world.specs.Trace.{Act, Accepted, Read, ReadEnd, Failed, Wrote, Close}
 use Rattle.server_model.specs.Settings.{limit_for}
 use Rattle.server_model.specs.Request.{Limits, request_of, rest_of, is_complete}
@@ -11,18 +12,6 @@ use Rattle.server_model.specs.World.{World, call_count}
 use Rattle.server_model.specs.Reply.{Extent, Growing, Whole, Reply}
 use Rattle.server_model.specs.Stream.{IsPrefix, is_whole, final, Place, place, remainder, Passed, left_after, replies_to, stream_of}
 use Rattle.server_model.specs.Deeds.{Deed, ours}
-
--- all bytes that came
-abbrev pub input_of : List Act → List ℕ
-input_of [] = []
-input_of (Read bytes ∷ acts) = input_of acts ++ bytes
-input_of (act ∷ acts) = input_of acts
-
--- all bytes that the client took
-abbrev pub output_of : List Act → List ℕ
-output_of [] = []
-output_of (Wrote offered bytes ∷ acts) = output_of acts ++ bytes
-output_of (act ∷ acts) = output_of acts
 
 abbrev pub has_ended : List Act → Bool
 has_ended [] = false
@@ -41,13 +30,6 @@ is_open [] = false
 is_open (Accepted peer local ∷ acts) = true
 is_open (Close ending ∷ acts) = false
 is_open (act ∷ acts) = is_open acts
-
--- how it was closed
-abbrev pub ending_of : List Act → Option Ending
-ending_of [] = None
-ending_of (Accepted peer local ∷ acts) = None
-ending_of (Close ending ∷ acts) = Some ending
-ending_of (act ∷ acts) = ending_of acts
 
 -- the client came from one address to the other
 abbrev pub CameFrom : Address → Address → List Act → Type 0

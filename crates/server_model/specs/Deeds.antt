@@ -1,16 +1,11 @@
 -- What was done for one client, the newest first: its own part of a trace.
 use Rattle.std.specs.Prelude.{◌≡◌, ℕ, List, [], ◌∷◌, Bool, true, false, ◌&&◌, ◌==◌, if◌then◌else◌}
+use Rattle.lt_world.specs.Acts.{is_deed}
 use Rattle.lt_world.specs.Trace.{Act, Entry, Readable, Writable}
 
 pub data Deed : Type 0 where
   -- on its own link
   Ours : Act → Deed
-
--- that a link is ready is no deed
-abbrev pub is_deed : Act → Bool
-is_deed Readable = false
-is_deed Writable = false
-is_deed act = true
 
 abbrev pub own : ℕ → List Entry → List Deed
 own client [] = []

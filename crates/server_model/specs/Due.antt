@@ -30,7 +30,7 @@ abbrev pub DueSettles : Bool → World → World → List Deed → List Deed →
 DueSettles may before after past now = Settles after may past now
 
 abbrev pub IsReadAct : Act → Type 0
-IsReadAct (Read bytes) = Unit {0}
+IsReadAct (Read asked bytes) = Unit {0}
 IsReadAct ReadEnd = Unit {0}
 IsReadAct (NotYet Reading) = Unit {0}
 IsReadAct (Failed Reading) = Unit {0}
@@ -45,7 +45,7 @@ IsWriteAct due act = ⊥
 
 -- memory may be wanted after bytes or their end came
 abbrev pub may_want_after_read : Act → Bool
-may_want_after_read (Read bytes) = true
+may_want_after_read (Read asked bytes) = true
 may_want_after_read ReadEnd = true
 may_want_after_read act = false
 

@@ -1,5 +1,6 @@
 -- How what a server keeps stands for a trace and for what the files tell.
 use Rattle.std.specs.Prelude.{◌≡◌, ℕ, ◌+◌, ◌≤◌, List, [], ◌++◌, length, Bool, true, false, Option, Some, None}
+use Rattle.lt_world.specs.Acts.{input_of, output_of}
 use Rattle.lt_world.specs.declared.files.FileCall.{FileCall}
 use Rattle.lt_world.specs.Disk.{Table, Disk}
 use Rattle.lt_world.specs.Trace.{Act, Entry}
@@ -12,7 +13,7 @@ use Rattle.server_model.specs.World.{World, world_of, call_count}
 use Rattle.server_model.specs.Reply.{Whole, continue_of}
 use Rattle.server_model.specs.Stream.{Passed, reply_at, left_after, replies_to}
 use Rattle.server_model.specs.Deeds.{Deed, own, ours}
-use Rattle.server_model.specs.Client.{input_of, output_of, has_ended, has_failed, is_open, CameFrom, AskedInTurn, IsFinished, IsServedRight}
+use Rattle.server_model.specs.Client.{has_ended, has_failed, is_open, CameFrom, AskedInTurn, IsFinished, IsServedRight}
 use Rattle.chunkqueue.specs.Items.{Item, bytes_of, Shows}
 use Rattle.server_model.specs.Held.{Stage, Awaiting, Heading, Taking, Asking, Answering, Held, Serving, kept_at}
 use Rattle.server_model.specs.Steps.{has_no_items}

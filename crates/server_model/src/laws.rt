@@ -1,5 +1,6 @@
 //! The laws on the definitions: each function does nothing, and its clauses are theorems.
 ghost use Rattle.std.specs.Prelude.{◌≡◌, ◌≢◌, ◌⊎◌, ℕ, ◌+◌, ◌-◌, ◌^◌, ◌<◌, ◌≤◌, ◌||◌, List, [], ◌∷◌, ◌++◌, length, take, drop, codes, Bool, true, false, Some, None};
+ghost use Rattle.lt_world.specs.Acts.{ending_of};
 ghost use Rattle.lt_world.specs.declared.files.FileCall.{FileCall};
 ghost use Rattle.lt_world.specs.declared.net.Address.{Address};
 ghost use Rattle.lt_world.specs.declared.net.Ending.{Ending};
@@ -16,7 +17,7 @@ ghost use Rattle.server_model.specs.Settings.{request_limit, settings_of, limit_
 ghost use Rattle.server_model.specs.Reply.{Reply, reply, is_accepted, continue_of};
 ghost use Rattle.server_model.specs.Stream.{IsPrefix, is_followed, joined, Passed, left_after, replies_to, stream_of};
 ghost use Rattle.server_model.specs.Deeds.{Deed, Ours, own, ours, told, deeds_in, AreDeeds};
-ghost use Rattle.server_model.specs.Client.{CameFrom, ending_of, stream, IsServedRight};
+ghost use Rattle.server_model.specs.Client.{CameFrom, stream, IsServedRight};
 ghost use Rattle.server_model.specs.Open.{open_clients};
 ghost use Rattle.server_model.specs.Due.{connection_limit};
 ghost use Rattle.server_model.specs.Held.{Serving};

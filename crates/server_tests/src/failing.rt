@@ -38,6 +38,9 @@ const REQUEST: &[u8; 32] = b"GET /a.txt HTTP/1.1\r\nHost: x\r\n\r\n";
 impl Net for Failing {
     ghost use Rattle.std.specs.Prelude.{[], min};
 
+    ghost use Rattle.std.specs.Prelude.{◌≤◌};
+    ghost use Rattle.std.proofs.Common.{refl, le_refl, le_trans};
+
     ghost tells = { ⊥ };
 
     ghost trace = { λ _. [] };
@@ -58,11 +61,17 @@ impl Net for Failing {
 
     ghost links = { λ net. min net.at 1 };
 
-    ghost later = { λ _ _. Unit {0} };
+    ghost later = { λ a b. a.faults ≤ b.faults };
 
-    ghost later_same = { λ _. tt };
+    ghost later_same = { λ net. le_refl net.faults };
 
-    ghost later_later = { λ _ _ _ _ _. tt };
+    ghost later_later = { λ a b c ab bc. le_trans ab bc };
+
+    ghost later_faults = { λ a b later. later };
+
+    ghost later_wait_faults = { λ a b later. refl };
+
+    ghost later_left = { λ a b ends later. absurd ends };
 
     fn next(&mut self) -> Event {
         let event = match self.at {

@@ -25,5 +25,5 @@ returns-clause-serves c =
     let unplanned : IsUnplanned before = subst IsUnplanned (sym c.requires.fresh) (record { finds = refl; opens = refl; reads = refl }) in
     let closed : c.close.new.files.calls ≡ after.calls = ap (λ (d : Disk). d.calls) (c.close.ensures.disk tt) ∙ all_freed-calls c.run-finish.new.server.table (disk_of after) in
     serves_all (disk_of after) (disk_of before) (serving_at c.run-finish.new.server) c.args.server.site (tree_of before) c.close.new.files.calls _ _ _ _ c.args.net.now.game.trace c.run-finish.new.net.game.trace
-    c.requires.begins (ap (λ (s : Stored). s.faults) c.requires.fresh) (calm before after c.run-finish.ensures.files_later unplanned).1 refl fresh (c.run-finish.ensures.serves tt tt start) c.run-finish.ensures.site
-    (ap tree_by (stays before after c.run-finish.ensures.files_later)) (sym closed) (c.run-finish.ensures.run tt tt start)
+    c.requires.begins (ap (λ (s : Stored). s.faults) c.requires.fresh) (calm before after c.run-finish.ensures.files_later.leads unplanned).1 refl fresh (c.run-finish.ensures.serves tt tt start) c.run-finish.ensures.site
+    (ap tree_by (stays before after c.run-finish.ensures.files_later.leads)) (sym closed) (c.run-finish.ensures.run tt tt start)

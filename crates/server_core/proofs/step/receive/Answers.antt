@@ -1,4 +1,4 @@
-use Rattle.std.proofs.Common.{take, sym, ap, ◌∙◌, subst}
+use Rattle.std.proofs.Common.{length, take, sym, ap, ◌∙◌, subst}
 use Rattle.lt_world.specs.Trace.{Read, ReadEnd, NotYet, Failed, Reading}
 use Rattle.server_core.specs.Served.{served}
 use Rattle.server_model.specs.Held.{Held}
@@ -11,8 +11,8 @@ use Rattle.server_core.proofs.step.receive.Goals as goal
 
 pub returns-in_default-clause-goes : goal.returns-in_default-clause-goes
 returns-in_default-clause-goes g c =
-    read_yields (served c.args.site.now) c.args.conn.now.held g.N.Net.tells g.F.Files.tells (g.F.Files.disk c.args.files.now) (g.N.Net.trace c.args.net.now) (g.N.Net.trace c.read.new.self) c.requires.wants c.got.new.self.held (take c.in-Bytes.n c.read.new.buf)
-    (λ t. tells_at c.link.result.0 c.args.conn.now.held.link (Read (take c.in-Bytes.n c.read.new.buf)) (g.N.Net.trace c.args.net.now) (g.N.Net.trace c.read.new.self) c.link.ensures.link (c.in-Bytes.ensures.trace t))
+    read_yields (served c.args.site.now) c.args.conn.now.held g.N.Net.tells g.F.Files.tells (g.F.Files.disk c.args.files.now) (g.N.Net.trace c.args.net.now) (g.N.Net.trace c.read.new.self) c.requires.wants c.got.new.self.held (length c.read.new.buf) (take c.in-Bytes.n c.read.new.buf)
+    (λ t. tells_at c.link.result.0 c.args.conn.now.held.link (Read (length c.read.new.buf) (take c.in-Bytes.n c.read.new.buf)) (g.N.Net.trace c.args.net.now) (g.N.Net.trace c.read.new.self) c.link.ensures.link (c.in-Bytes.ensures.trace t))
     (ap (λ (h : Held). h.link) c.in_default.ensures.err) (ap (λ (h : Held). h.file) c.in_default.ensures.err)
 
 pub settle-requires-clause-idle : goal.settle-requires-clause-idle
@@ -26,8 +26,8 @@ settle-requires-clause-fits g c f = let fits = c.requires.fits f in subst (Fits 
 
 pub returns-in-Ok-clause-goes : goal.returns-in-Ok-clause-goes
 returns-in-Ok-clause-goes g c =
-    read_then (served c.args.site.now) c.args.conn.now.held g.N.Net.tells g.F.Files.tells (g.F.Files.disk c.args.files.now) (g.N.Net.trace c.args.net.now) (g.N.Net.trace c.read.new.self) c.requires.wants (g.F.Files.disk c.settle.new.files) c.settle.new.conn.held c.settle.result (take c.in-Bytes.n c.read.new.buf)
-    (λ t. tells_at c.link.result.0 c.args.conn.now.held.link (Read (take c.in-Bytes.n c.read.new.buf)) (g.N.Net.trace c.args.net.now) (g.N.Net.trace c.read.new.self) c.link.ensures.link (c.in-Bytes.ensures.trace t))
+    read_then (served c.args.site.now) c.args.conn.now.held g.N.Net.tells g.F.Files.tells (g.F.Files.disk c.args.files.now) (g.N.Net.trace c.args.net.now) (g.N.Net.trace c.read.new.self) c.requires.wants (g.F.Files.disk c.settle.new.files) c.settle.new.conn.held c.settle.result (length c.read.new.buf) (take c.in-Bytes.n c.read.new.buf)
+    (λ t. tells_at c.link.result.0 c.args.conn.now.held.link (Read (length c.read.new.buf) (take c.in-Bytes.n c.read.new.buf)) (g.N.Net.trace c.args.net.now) (g.N.Net.trace c.read.new.self) c.link.ensures.link (c.in-Bytes.ensures.trace t))
     (settles_read (served c.args.site.now) c.got.new.self.held (received c.args.conn.now.held (take c.in-Bytes.n c.read.new.buf)) c.settle.new.conn.held g.F.Files.tells (g.F.Files.disk c.args.files.now) (g.F.Files.disk c.settle.new.files) c.settle.result c.in-Ok.ensures.ok c.settle.ensures.settles)
 
 pub returns-in-End-clause-goes : goal.returns-in-End-clause-goes
