@@ -22,7 +22,8 @@ impl<R> DiskTexts<R> {
 }
 
 impl<R: rt::Files + AllocGlobal> Texts for DiskTexts<R> {
-    ghost use Rattle.std.specs.Prelude.{[], None};
+    ghost use Rattle.std.specs.Prelude.{◌≤◌, [], None};
+    ghost use Rattle.std.proofs.Common.{le_refl, le_trans};
 
     ghost tells = { ⊥ };
 
@@ -32,11 +33,13 @@ impl<R: rt::Files + AllocGlobal> Texts for DiskTexts<R> {
 
     ghost faults = { λ texts. texts.faults };
 
-    ghost later = { λ _ _. Unit {0} };
+    ghost later = { λ a b. a.faults ≤ b.faults };
 
-    ghost later_same = { λ _. tt };
+    ghost later_same = { λ texts. le_refl texts.faults };
 
-    ghost later_later = { λ _ _ _ _ _. tt };
+    ghost later_later = { λ a b c ab bc. le_trans ab bc };
+
+    ghost later_faults = { λ a b later. later };
 
     fn fetch(&mut self, name: &[u8], max: u64) -> Fetched {
         let fetched = fetch_by(&self.rt, name, max);

@@ -29,7 +29,8 @@ impl<F> Reading<F> {
 }
 
 impl<F: Read> Source for Reading<F> {
-    ghost use Rattle.std.specs.Prelude.{[], IsSome, unwrap_or};
+    ghost use Rattle.std.specs.Prelude.{◌≤◌, [], IsSome, unwrap_or};
+    ghost use Rattle.std.proofs.Common.{le_refl, le_trans};
 
     // Where the reader's bytes are known, they are those of the source.
     ghost tells = { (file : F) → IsSome (F.remaining file) };
@@ -38,11 +39,13 @@ impl<F: Read> Source for Reading<F> {
 
     ghost faults = { λ source. source.faults };
 
-    ghost later = { λ _ _. Unit {0} };
+    ghost later = { λ a b. a.faults ≤ b.faults };
 
-    ghost later_same = { λ _. tt };
+    ghost later_same = { λ source. le_refl source.faults };
 
-    ghost later_later = { λ _ _ _ _ _. tt };
+    ghost later_later = { λ a b c ab bc. le_trans ab bc };
+
+    ghost later_faults = { λ a b later. later };
 
     fn read(&mut self, buf: &mut [u8]) -> Result<usize, Fault> {
         match read_once(&mut self.file, buf) {

@@ -1,6 +1,6 @@
 -- What contracts see of the net, and what it may become.
 use Rattle.std.specs.Prelude.{◌≡◌, ℕ, ◌≤◌, ◌⊎◌}
-use Rattle.std.proofs.Common.{arith}
+use Rattle.std.proofs.Common.{refl, sym, ◌∙◌, subst, le_refl, le_trans}
 use Rattle.lt_world.specs.declared.net.NextKind.{NextKind}
 use Rattle.lt_world.specs.declared.net.NextKind.TheVariants as kind
 use Rattle.lt_world.specs.declared.net.Event.{Event}
@@ -17,13 +17,18 @@ pub record Counts : Type 0 where
 abbrev pub no_counts : Counts
 no_counts = record { faults = 0; wait_faults = 0; last = kind.NoneYet; links = 0 }
 
--- counts and numbers never fall, and the net answers neither NoMemory nor Over
+-- the count of failures and the numbers of links never fall, no call of the net waits, and it answers neither NoMemory nor Over
 pub record Becomes (before after : Counts) : Type 0 where
   pub faults : before.faults ≤ after.faults
-  pub wait_faults : before.wait_faults ≤ after.wait_faults
+  pub wait_faults : after.wait_faults ≡ before.wait_faults
   pub links : before.links ≤ after.links
   pub memory : after.last ≡ kind.NoMemory → before.last ≡ kind.NoMemory
   pub over : after.last ≡ kind.Over → before.last ≡ kind.Over
+
+-- the same by waiting as well: no count falls
+pub record Since (before after : Counts) : Type 0 where
+  pub faults : before.faults ≤ after.faults
+  pub wait_faults : before.wait_faults ≤ after.wait_faults
 
 -- an event of a link
 abbrev pub IsLinkEvent : Event → Type 0
@@ -34,7 +39,13 @@ abbrev pub IsAnswer : Event → Type 0
 IsAnswer answer = (kind_of answer ≡ kind.Event) ⊎ (kind_of answer ≡ kind.Idle)
 
 pub Becomes-same : (net : Counts) → Becomes net net
-Becomes-same net = record { faults = omega arith; wait_faults = omega arith; links = omega arith; memory = λ is. is; over = λ is. is }
+Becomes-same net = record { faults = le_refl net.faults; wait_faults = refl; links = le_refl net.links; memory = λ is. is; over = λ is. is }
 
 pub Becomes-more : (a b c : Counts) → Becomes a b → Becomes b c → Becomes a c
-Becomes-more a b c ab bc = record { faults = omega (arith, ab.faults, bc.faults); wait_faults = omega (arith, ab.wait_faults, bc.wait_faults); links = omega (arith, ab.links, bc.links); memory = λ is. ab.memory (bc.memory is); over = λ is. ab.over (bc.over is) }
+Becomes-more a b c ab bc = record { faults = le_trans ab.faults bc.faults; wait_faults = bc.wait_faults ∙ ab.wait_faults; links = le_trans ab.links bc.links; memory = λ is. ab.memory (bc.memory is); over = λ is. ab.over (bc.over is) }
+
+pub Becomes-since : (a b : Counts) → Becomes a b → Since a b
+Becomes-since a b becomes = record { faults = becomes.faults; wait_faults = subst (λ (n : ℕ). a.wait_faults ≤ n) (sym becomes.wait_faults) (le_refl a.wait_faults) }
+
+pub Since-more : (a b c : Counts) → Since a b → Since b c → Since a c
+Since-more a b c ab bc = record { faults = le_trans ab.faults bc.faults; wait_faults = le_trans ab.wait_faults bc.wait_faults }

@@ -101,6 +101,12 @@ impl<R: System + Drop> Net for MioNet<R> {
 
     ghost later_later = { Becomes-more };
 
+    ghost later_faults = { λ a b later. later.faults };
+
+    ghost later_wait_faults = { λ a b later. later.wait_faults };
+
+    ghost later_left = { λ a b ends later. absurd ends };
+
     fn next(&mut self) -> Event {
         let event = self.sockets.next();
         self.last = kind_of(event);
@@ -137,6 +143,20 @@ impl<R: System + Drop> Net for MioNet<R> {
 }
 
 impl<R: System + Drop> Waits for MioNet<R> {
+    ghost use Rattle.mio_net.specs.Nets.{Since, Becomes-since, Since-more};
+
+    ghost since = { Since };
+
+    ghost later_since = { Becomes-since };
+
+    ghost since_since = { Since-more };
+
+    ghost since_faults = { λ a b since. since.faults };
+
+    ghost since_wait_faults = { λ a b since. since.wait_faults };
+
+    ghost since_left = { λ a b ends since. absurd ends };
+
     fn listen(&mut self, at: Address) -> Result<(), Fault> {
         if self.sockets.listen(at).is_err() {
             self.faults = self.faults.saturating_add(1);
