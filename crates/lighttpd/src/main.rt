@@ -49,8 +49,6 @@ fn words_of(rt: &HostRuntime) -> io::Result<Vec<String>> {
 }
 
 #[cfg(test)]
-mod body_tests;
-#[cfg(test)]
 mod serving_tests;
 #[cfg(test)]
 mod tests;

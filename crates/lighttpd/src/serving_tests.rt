@@ -8,13 +8,39 @@ use std::alloc::Global;
 use std::process::Abort;
 use std::test::Fail;
 
-pub(crate) const HELLO: &[u8] =
+const HELLO: &[u8] =
     b"HTTP/1.1 200 OK\r\nContent-Type: application/octet-stream\r\nContent-Length: 5\r\nServer: lighttpd\r\n\r\nhello";
 
-pub(crate) const GET_HELLO: &[u8] = b"GET /a.txt HTTP/1.1\r\nHost: h\r\n\r\n";
+const GET_HELLO: &[u8] = b"GET /a.txt HTTP/1.1\r\nHost: h\r\n\r\n";
+
+// A file answers no POST.
+const NOT_ALLOWED: &[u8] =
+    b"HTTP/1.1 405 Method Not Allowed\r\nAllow: GET, HEAD\r\nContent-Type: text/plain\r\nContent-Length: 23\r\nServer: lighttpd\r\n\r\n405 Method Not Allowed\n";
 
 // Client `c0` takes all that it is sent, and ends.
-pub(crate) const FINISH: &[u8] = b"take c0 4096 9\nend c0\n";
+const FINISH: &[u8] = b"take c0 4096 9\nend c0\n";
+
+// A row: what client `c0` sends in one piece, `>`, what it takes, `|`.
+const ROWS: &[u8] =
+    b"GET /a.txt HTTP/1.1\r\nHost: h\r\n\r\n>HTTP/1.1 200 OK\r\nContent-Type: application/octet-stream\r\nContent-Length: 5\r\nServer: lighttpd\r\n\r\nhello|\
+GET /x/../a%2Etxt?q HTTP/1.1\r\nHost: h\r\n\r\n>HTTP/1.1 200 OK\r\nContent-Type: application/octet-stream\r\nContent-Length: 5\r\nServer: lighttpd\r\n\r\nhello|\
+GET /a.txt HTTP/1.1\r\nHost: h\r\n\r\nGET /a>HTTP/1.1 200 OK\r\nContent-Type: application/octet-stream\r\nContent-Length: 5\r\nServer: lighttpd\r\n\r\nhello|\
+HEAD /a.txt HTTP/1.1\r\nHost: h\r\n\r\n>HTTP/1.1 200 OK\r\nContent-Type: application/octet-stream\r\nContent-Length: 5\r\nServer: lighttpd\r\n\r\n|\
+GET /a.txt HTTP/1.0\r\n\r\n>HTTP/1.0 200 OK\r\nContent-Type: application/octet-stream\r\nContent-Length: 5\r\nConnection: close\r\nServer: lighttpd\r\n\r\nhello|\
+GET /no HTTP/1.0\r\nConnection: Keep-Alive\r\n\r\n>HTTP/1.0 404 Not Found\r\nContent-Type: text/plain\r\nContent-Length: 14\r\nConnection: keep-alive\r\nServer: lighttpd\r\n\r\n404 Not Found\n|\
+GET /d HTTP/1.1\r\nHost: h\r\nConnection: x\r\nConnection: y, Close\r\n\r\nGET /a.txt HTTP/1.1\r\nHost: h\r\n\r\n>HTTP/1.1 404 Not Found\r\nContent-Type: text/plain\r\nContent-Length: 14\r\nConnection: close\r\nServer: lighttpd\r\n\r\n404 Not Found\n|\
+PUT /a.txt HTTP/1.1\r\nHost: h\r\n\r\n>HTTP/1.1 405 Method Not Allowed\r\nAllow: GET, HEAD\r\nContent-Type: text/plain\r\nContent-Length: 23\r\nServer: lighttpd\r\n\r\n405 Method Not Allowed\n|\
+GET /a.txt HTTP/1.1\r\n\r\nGET /a.txt HTTP/1.1\r\nHost: h\r\n\r\n>HTTP/1.1 400 Bad Request\r\nContent-Type: text/plain\r\nContent-Length: 16\r\nConnection: close\r\nServer: lighttpd\r\n\r\n400 Bad Request\n|\
+GET / HTTP/2.0\r\n\r\n>HTTP/1.1 505 HTTP Version Not Supported\r\nContent-Type: text/plain\r\nContent-Length: 31\r\nConnection: close\r\nServer: lighttpd\r\n\r\n505 HTTP Version Not Supported\n|\
+GET /a.txt HTTP/1.1\r\nHost: h\r\nTransfer-Encoding: gzip\r\n\r\n>HTTP/1.1 501 Not Implemented\r\nContent-Type: text/plain\r\nContent-Length: 20\r\nConnection: close\r\nServer: lighttpd\r\n\r\n501 Not Implemented\n|\
+POST /a.txt HTTP/1.1\r\nHost: h\r\nTransfer-Encoding: chunked\r\n\r\n5;x=1\r\nhello\r\n0\r\nT: 1\r\n\r\nGET /no HTTP/1.1\r\nHost: h\r\n\r\n>HTTP/1.1 405 Method Not Allowed\r\nAllow: GET, HEAD\r\nContent-Type: text/plain\r\nContent-Length: 23\r\nServer: lighttpd\r\n\r\n405 Method Not Allowed\nHTTP/1.1 404 Not Found\r\nContent-Type: text/plain\r\nContent-Length: 14\r\nServer: lighttpd\r\n\r\n404 Not Found\n|\
+POST /a.txt HTTP/1.1\r\nHost: h\r\nContent-Length: 5\r\nTransfer-Encoding: chunked\r\n\r\nhello>HTTP/1.1 400 Bad Request\r\nContent-Type: text/plain\r\nContent-Length: 16\r\nConnection: close\r\nServer: lighttpd\r\n\r\n400 Bad Request\n|\
+POST /a.txt HTTP/1.1\r\nHost: h\r\nTransfer-Encoding: chunked\r\n\r\ng\r\n>HTTP/1.1 400 Bad Request\r\nContent-Type: text/plain\r\nContent-Length: 16\r\nConnection: close\r\nServer: lighttpd\r\n\r\n400 Bad Request\n|\
+POST /a.txt HTTP/1.1\r\nHost: h\r\nExpect: 100-continue\r\nContent-Length: 2\r\n\r\nhi>HTTP/1.1 100 Continue\r\n\r\nHTTP/1.1 405 Method Not Allowed\r\nAllow: GET, HEAD\r\nContent-Type: text/plain\r\nContent-Length: 23\r\nServer: lighttpd\r\n\r\n405 Method Not Allowed\n|\
+POST /a.txt HTTP/1.1\r\nHost: h\r\nExpect: 100-continue\r\nTransfer-Encoding: chunked\r\n\r\ng\r\n>HTTP/1.1 100 Continue\r\n\r\nHTTP/1.1 400 Bad Request\r\nContent-Type: text/plain\r\nContent-Length: 16\r\nConnection: close\r\nServer: lighttpd\r\n\r\n400 Bad Request\n|\
+POST /a.txt HTTP/1.0\r\nExpect: 100-continue\r\nContent-Length: 2\r\n\r\nhi>HTTP/1.0 405 Method Not Allowed\r\nAllow: GET, HEAD\r\nContent-Type: text/plain\r\nContent-Length: 23\r\nConnection: close\r\nServer: lighttpd\r\n\r\n405 Method Not Allowed\n|\
+POST /a.txt HTTP/1.1\r\nHost: h\r\nExpect: 100-continue\r\nContent-Length: 1048577\r\n\r\n>HTTP/1.1 413 Content Too Large\r\nContent-Type: text/plain\r\nContent-Length: 22\r\nConnection: close\r\nServer: lighttpd\r\n\r\n413 Content Too Large\n|\
+POST /a.txt HTTP/1.1\r\nHost: h\r\nExpect: 100-continue\r\nContent-Length: 0\r\n\r\n>HTTP/1.1 405 Method Not Allowed\r\nAllow: GET, HEAD\r\nContent-Type: text/plain\r\nContent-Length: 23\r\nServer: lighttpd\r\n\r\n405 Method Not Allowed\n";
 
 fn push_number(text: &mut Text, number: u64) -> Result<(), Fail> {
     text.push_all(decimal(number).bytes())?;
@@ -30,40 +56,29 @@ fn push_quoted(text: &mut Text, bytes: &[u8]) -> Result<(), Fail> {
     Ok(())
 }
 
+// A line of the script: a word, a client, and numbers behind a space.
+fn push_step(lines: &mut Text, word: &[u8], client: u64, numbers: &[u64]) -> Result<(), Fail> {
+    lines.push_all(word)?;
+    lines.push_all(b" c")?;
+    push_number(lines, client)?;
+    for number in numbers {
+        lines.push(b' ')?;
+        push_number(lines, *number)?;
+    }
+    lines.push(b'\n')?;
+    Ok(())
+}
+
 // A client sends these bytes at once.
-pub(crate) fn push_data(lines: &mut Text, client: u64, bytes: &[u8]) -> Result<(), Fail> {
+fn push_data(lines: &mut Text, client: u64, bytes: &[u8]) -> Result<(), Fail> {
     lines.push_all(b"data c")?;
     push_number(lines, client)?;
     lines.push(b' ')?;
     push_quoted(lines, bytes)
 }
 
-// A client takes up to `size` bytes at once, `count` times.
-fn push_take(lines: &mut Text, client: u64, size: u64, count: u64) -> Result<(), Fail> {
-    lines.push_all(b"take c")?;
-    push_number(lines, client)?;
-    lines.push(b' ')?;
-    push_number(lines, size)?;
-    lines.push(b' ')?;
-    push_number(lines, count)?;
-    lines.push(b'\n')?;
-    Ok(())
-}
-
-fn push_end(lines: &mut Text, client: u64) -> Result<(), Fail> {
-    lines.push_all(b"end c")?;
-    push_number(lines, client)?;
-    lines.push(b'\n')?;
-    Ok(())
-}
-
 // What the report says of a client.
-pub(crate) fn push_line(
-    report: &mut Text,
-    client: u64,
-    ending: &[u8],
-    bytes: &[u8],
-) -> Result<(), Fail> {
+fn push_line(report: &mut Text, client: u64, ending: &[u8], bytes: &[u8]) -> Result<(), Fail> {
     report.push(b'c')?;
     push_number(report, client)?;
     report.push(b' ')?;
@@ -74,13 +89,8 @@ pub(crate) fn push_line(
     push_quoted(report, bytes)
 }
 
-// These lines, behind the files and the first client, are replayed to this report.
-pub(crate) fn expect_report(
-    rt: &impl Abort,
-    alloc: Global,
-    lines: &[u8],
-    report: &[u8],
-) -> Result<(), Fail> {
+// These lines, after the files and the first client, are replayed to this report.
+fn expect_report(rt: &impl Abort, alloc: Global, lines: &[u8], report: &[u8]) -> Result<(), Fail> {
     let mut script = Text::from_bytes(alloc, START)?;
     script.push_all(lines)?;
     let (status, output) = call(alloc, REPLAY, ROOT, script.bytes(), report.len() as u64)?;
@@ -89,92 +99,63 @@ pub(crate) fn expect_report(
     Ok(())
 }
 
-// What a client sends in one piece is answered by these bytes.
-pub(crate) fn expect(
-    rt: &impl Abort,
-    alloc: Global,
-    sent: &[u8],
-    taken: &[u8],
-) -> Result<(), Fail> {
-    let mut lines = Text::new(alloc);
-    push_data(&mut lines, 0, sent)?;
+// After these lines client `c0` finishes, and took these bytes.
+fn expect(rt: &impl Abort, alloc: Global, lines: &Text, taken: &[u8]) -> Result<(), Fail> {
+    let mut lines = Text::from_bytes(alloc, lines.bytes())?;
     lines.push_all(FINISH)?;
     let mut report = Text::new(alloc);
     push_line(&mut report, 0, b"clean", taken)?;
     expect_report(rt, alloc, lines.bytes(), report.bytes())
 }
 
-#[test]
-fn each_request_gets_the_reply_that_its_head_asks_for(rt: HostRuntime) -> Result<(), Fail> {
-    let alloc = rt.alloc();
-    expect(&rt, alloc, GET_HELLO, HELLO)?;
-    expect(
-        &rt,
-        alloc,
-        b"GET /x/../a%2Etxt?q HTTP/1.1\r\nHost: h\r\n\r\n",
-        HELLO,
-    )?;
-    // What is left of a request is not answered.
-    expect(
-        &rt,
-        alloc,
-        b"GET /a.txt HTTP/1.1\r\nHost: h\r\n\r\nGET /a",
-        HELLO,
-    )?;
-    expect(
-        &rt,
-        alloc,
-        b"HEAD /a.txt HTTP/1.1\r\nHost: h\r\n\r\n",
-        b"HTTP/1.1 200 OK\r\nContent-Type: application/octet-stream\r\nContent-Length: 5\r\nServer: lighttpd\r\n\r\n",
-    )?;
-    expect(
-        &rt,
-        alloc,
-        b"GET /a.txt HTTP/1.0\r\n\r\n",
-        b"HTTP/1.0 200 OK\r\nContent-Type: application/octet-stream\r\nContent-Length: 5\r\nConnection: close\r\nServer: lighttpd\r\n\r\nhello",
-    )?;
-    expect(
-        &rt,
-        alloc,
-        b"GET /no HTTP/1.0\r\nConnection: Keep-Alive\r\n\r\n",
-        b"HTTP/1.0 404 Not Found\r\nContent-Type: text/plain\r\nContent-Length: 14\r\nConnection: keep-alive\r\nServer: lighttpd\r\n\r\n404 Not Found\n",
-    )?;
-    // The option stands in a second field, and nothing is answered after it.
-    expect(
-        &rt,
-        alloc,
-        b"GET /d HTTP/1.1\r\nHost: h\r\nConnection: x\r\nConnection: y, Close\r\n\r\nGET /a.txt HTTP/1.1\r\nHost: h\r\n\r\n",
-        b"HTTP/1.1 404 Not Found\r\nContent-Type: text/plain\r\nContent-Length: 14\r\nConnection: close\r\nServer: lighttpd\r\n\r\n404 Not Found\n",
-    )?;
-    expect(
-        &rt,
-        alloc,
-        b"PUT /a.txt HTTP/1.1\r\nHost: h\r\n\r\n",
-        b"HTTP/1.1 405 Method Not Allowed\r\nAllow: GET, HEAD\r\nContent-Type: text/plain\r\nContent-Length: 23\r\nServer: lighttpd\r\n\r\n405 Method Not Allowed\n",
-    )
+// A client that sends this in pieces of so many bytes takes these bytes.
+fn expect_taken(
+    rt: &impl Abort,
+    alloc: Global,
+    sent: &[u8],
+    piece: usize,
+    taken: &[u8],
+) -> Result<(), Fail>
+    requires { 0 < piece }
+{
+    let mut lines = Text::new(alloc);
+    for bytes in sent.chunks(piece) {
+        push_data(&mut lines, 0, bytes)?;
+    }
+    expect(rt, alloc, &lines, taken)
 }
 
 #[test]
-fn a_head_that_is_refused_gets_the_last_reply(rt: HostRuntime) -> Result<(), Fail> {
+fn each_request_gets_the_reply_that_it_asks_for(rt: HostRuntime) -> Result<(), Fail> {
     let alloc = rt.alloc();
-    expect(
-        &rt,
-        alloc,
-        b"GET /a.txt HTTP/1.1\r\n\r\nGET /a.txt HTTP/1.1\r\nHost: h\r\n\r\n",
-        b"HTTP/1.1 400 Bad Request\r\nContent-Type: text/plain\r\nContent-Length: 16\r\nConnection: close\r\nServer: lighttpd\r\n\r\n400 Bad Request\n",
+    let mut rows = 0;
+    for row in ROWS.split(|byte| *byte == b'|') {
+        let mut sides = row.split(|byte| *byte == b'>');
+        let sent = sides.next().unwrap_or(&[]);
+        let taken = sides.next().unwrap_or(&[]);
+        for piece in [1, 4096] {
+            expect_taken(&rt, alloc, sent, piece, taken)?;
+        }
+        rows += 1u32;
+    }
+    assert_eq!(rt; rows, 19);
+    Ok(())
+}
+
+#[test]
+fn a_client_that_waits_is_told_to_go_on(rt: HostRuntime) -> Result<(), Fail> {
+    let alloc = rt.alloc();
+    let mut lines = Text::new(alloc);
+    push_data(
+        &mut lines,
+        0,
+        b"POST /a.txt HTTP/1.1\r\nHost: h\r\nExpect: 100-continue\r\nContent-Length: 2\r\n\r\n",
     )?;
-    expect(
-        &rt,
-        alloc,
-        b"GET / HTTP/2.0\r\n\r\n",
-        b"HTTP/1.1 505 HTTP Version Not Supported\r\nContent-Type: text/plain\r\nContent-Length: 31\r\nConnection: close\r\nServer: lighttpd\r\n\r\n505 HTTP Version Not Supported\n",
-    )?;
-    expect(
-        &rt,
-        alloc,
-        b"GET /a.txt HTTP/1.1\r\nHost: h\r\nTransfer-Encoding: gzip\r\n\r\n",
-        b"HTTP/1.1 501 Not Implemented\r\nContent-Type: text/plain\r\nContent-Length: 20\r\nConnection: close\r\nServer: lighttpd\r\n\r\n501 Not Implemented\n",
-    )
+    push_step(&mut lines, b"take", 0, &[4096, 1])?;
+    push_data(&mut lines, 0, b"hi")?;
+    let mut taken = Text::from_bytes(alloc, b"HTTP/1.1 100 Continue\r\n\r\n")?;
+    taken.push_all(NOT_ALLOWED)?;
+    expect(&rt, alloc, &lines, taken.bytes())
 }
 
 // A head of 37 bytes and so many letters in one field.
@@ -187,28 +168,41 @@ fn head_with_field(alloc: Global, letters: u64) -> Result<Text, Fail> {
     Ok(head)
 }
 
-// The reply to a head that comes in three reads.
-fn expect_long(rt: &impl Abort, alloc: Global, letters: u64, taken: &[u8]) -> Result<(), Fail> {
-    let head = head_with_field(alloc, letters)?;
-    let mut lines = Text::new(alloc);
-    push_data(&mut lines, 0, head.bytes())?;
-    lines.push_all(b"ready c0 2\n")?;
-    lines.push_all(FINISH)?;
-    let mut report = Text::new(alloc);
-    push_line(&mut report, 0, b"clean", taken)?;
-    expect_report(rt, alloc, lines.bytes(), report.bytes())
-}
-
 #[test]
 fn a_head_of_8192_bytes_is_read_and_one_more_is_too_large(rt: HostRuntime) -> Result<(), Fail> {
     let alloc = rt.alloc();
-    assert_eq!(rt; head_with_field(alloc, 8155)?.len(), 8192);
-    expect_long(&rt, alloc, 8155, HELLO)?;
-    expect_long(
+    let head = head_with_field(alloc, 8155)?;
+    assert_eq!(rt; head.len(), 8192);
+    expect_taken(&rt, alloc, head.bytes(), 4096, HELLO)?;
+    expect_taken(
         &rt,
         alloc,
-        8156,
+        head_with_field(alloc, 8156)?.bytes(),
+        4096,
         b"HTTP/1.1 431 Request Header Fields Too Large\r\nContent-Type: text/plain\r\nContent-Length: 36\r\nConnection: close\r\nServer: lighttpd\r\n\r\n431 Request Header Fields Too Large\n",
+    )
+}
+
+#[test]
+fn a_body_of_a_mebibyte_is_read_and_one_more_byte_is_too_large(
+    rt: HostRuntime,
+) -> Result<(), Fail> {
+    let alloc = rt.alloc();
+    let mut lines = Text::new(alloc);
+    push_data(
+        &mut lines,
+        0,
+        b"POST /a.txt HTTP/1.1\r\nHost: h\r\nContent-Length: 1048576\r\n\r\n",
+    )?;
+    push_step(&mut lines, b"pour", 0, &[1_048_576])?;
+    push_step(&mut lines, b"ready", 0, &[256])?;
+    expect(&rt, alloc, &lines, NOT_ALLOWED)?;
+    expect_taken(
+        &rt,
+        alloc,
+        b"POST /a.txt HTTP/1.1\r\nHost: h\r\nContent-Length: 1048577\r\n\r\n",
+        4096,
+        b"HTTP/1.1 413 Content Too Large\r\nContent-Type: text/plain\r\nContent-Length: 22\r\nConnection: close\r\nServer: lighttpd\r\n\r\n413 Content Too Large\n",
     )
 }
 
@@ -233,63 +227,49 @@ fn expect_cut(rt: &impl Abort, alloc: Global, piece: usize, size: u64) -> Result
     requires { 0 < piece }
 {
     let mut sent = Text::from_bytes(alloc, BROWSER)?;
-    sent.push_all(GET_HELLO)?;
-    sent.push_all(GET_HELLO)?;
-    sent.push_all(GET_HELLO)?;
+    let mut taken = page(alloc)?;
+    for _ in 0..3 {
+        sent.push_all(GET_HELLO)?;
+        taken.push_all(HELLO)?;
+    }
     let mut lines = Text::new(alloc);
     for bytes in sent.bytes().chunks(piece) {
         push_data(&mut lines, 0, bytes)?;
     }
-    push_take(&mut lines, 0, size, 720)?;
-    push_end(&mut lines, 0)?;
-    let mut taken = page(alloc)?;
-    taken.push_all(HELLO)?;
-    taken.push_all(HELLO)?;
-    taken.push_all(HELLO)?;
-    let mut report = Text::new(alloc);
-    push_line(&mut report, 0, b"clean", taken.bytes())?;
-    expect_report(rt, alloc, lines.bytes(), report.bytes())
-}
-
-// The same for replies that leave in pieces of some sizes.
-fn expect_cuts(rt: &impl Abort, alloc: Global, piece: usize) -> Result<(), Fail>
-    requires { 0 < piece }
-{
-    for size in [1, 7, 1200, 4096] {
-        expect_cut(rt, alloc, piece, size)?;
-    }
-    Ok(())
+    push_step(&mut lines, b"take", 0, &[size, 720])?;
+    expect(rt, alloc, &lines, taken.bytes())
 }
 
 #[test]
 fn however_bytes_are_cut_the_replies_are_the_same(rt: HostRuntime) -> Result<(), Fail> {
     let alloc = rt.alloc();
-    expect_cuts(&rt, alloc, 1)?;
-    expect_cuts(&rt, alloc, 2)?;
-    expect_cuts(&rt, alloc, 4096)
+    for piece in [1, 2, 4096] {
+        for size in [1, 7, 1200, 4096] {
+            expect_cut(&rt, alloc, piece, size)?;
+        }
+    }
+    Ok(())
 }
 
 #[test]
 fn the_hundredth_request_is_the_last(rt: HostRuntime) -> Result<(), Fail> {
     let alloc = rt.alloc();
     let mut sent = Text::new(alloc);
-    for _ in 0..101 {
-        sent.push_all(GET_HELLO)?;
-    }
-    let mut lines = Text::new(alloc);
-    push_data(&mut lines, 0, sent.bytes())?;
-    push_take(&mut lines, 0, 4096, 400)?;
     let mut taken = Text::new(alloc);
     for _ in 0..99 {
+        sent.push_all(GET_HELLO)?;
         taken.push_all(HELLO)?;
     }
+    sent.push_all(GET_HELLO)?;
+    sent.push_all(GET_HELLO)?;
     taken.push_all(
         b"HTTP/1.1 200 OK\r\nContent-Type: application/octet-stream\r\nContent-Length: 5\r\nConnection: close\r\nServer: lighttpd\r\n\r\nhello",
     )?;
     assert_eq!(rt; taken.len(), 10_119);
-    let mut report = Text::new(alloc);
-    push_line(&mut report, 0, b"clean", taken.bytes())?;
-    expect_report(&rt, alloc, lines.bytes(), report.bytes())
+    let mut lines = Text::new(alloc);
+    push_data(&mut lines, 0, sent.bytes())?;
+    push_step(&mut lines, b"take", 0, &[4096, 400])?;
+    expect(&rt, alloc, &lines, taken.bytes())
 }
 
 #[test]
@@ -299,17 +279,11 @@ fn the_257th_client_is_one_too_many(rt: HostRuntime) -> Result<(), Fail> {
     let mut report = Text::new(alloc);
     for client in 0..256 {
         lines.push_all(b"accept 10.0.0.6:40001 127.0.0.1:80\n")?;
-        push_line(&mut report, client, b"open", b"")?;
-    }
-    push_line(&mut report, 256, b"full", b"")?;
-    expect_report(&rt, alloc, lines.bytes(), report.bytes())?;
-    // One that left makes room for another.
-    lines.push_all(b"end c7\naccept 10.0.0.6:40001 127.0.0.1:80\n")?;
-    let mut report = Text::new(alloc);
-    for client in 0..256 {
         let ending: &[u8] = if client == 7 { b"clean" } else { b"open" };
         push_line(&mut report, client, ending, b"")?;
     }
+    // One that left makes room for another.
+    lines.push_all(b"end c7\naccept 10.0.0.6:40001 127.0.0.1:80\n")?;
     push_line(&mut report, 256, b"full", b"")?;
     push_line(&mut report, 257, b"open", b"")?;
     expect_report(&rt, alloc, lines.bytes(), report.bytes())
@@ -321,9 +295,7 @@ fn a_client_whose_socket_fails_is_closed_alone(rt: HostRuntime) -> Result<(), Fa
     let mut lines = Text::from_bytes(alloc, b"accept 10.0.0.6:40001 127.0.0.1:80\n")?;
     push_data(&mut lines, 0, GET_HELLO)?;
     push_data(&mut lines, 1, GET_HELLO)?;
-    lines.push_all(b"wfail c0\n")?;
-    push_take(&mut lines, 1, 40, 2)?;
-    lines.push_all(b"idle\nrfail c1\n")?;
+    lines.push_all(b"wfail c0\ntake c1 40 2\nidle\nrfail c1\n")?;
     let mut report = Text::new(alloc);
     push_line(&mut report, 0, b"client-fault", b"")?;
     push_line(&mut report, 1, b"client-fault", &HELLO[..80])?;
@@ -446,7 +418,7 @@ fn push_rounds(lines: &mut Text, visits: &mut Vec<Visit>) -> Result<(), Fail> {
         }
         let client = draws.next(CLIENTS);
         let size = draws.next(300);
-        push_take(lines, client, size, 1)?;
+        push_step(lines, b"take", client, &[size, 1])?;
     }
     Ok(())
 }
@@ -465,8 +437,8 @@ fn two_hundred_clients_get_their_own_answers_in_their_order(rt: HostRuntime) -> 
         if let Some(visit) = visits.get_mut(client as usize) {
             visit.push_piece(&mut lines, client, 4096)?;
         }
-        push_take(&mut lines, client, 4096, 16)?;
-        push_end(&mut lines, client)?;
+        push_step(&mut lines, b"take", client, &[4096, 16])?;
+        push_step(&mut lines, b"end", client, &[])?;
     }
     expect_report(&rt, alloc, lines.bytes(), report.bytes())
 }
