@@ -9,7 +9,8 @@ use Rattle.fcgi_records.specs.Grammar.{Source, Stdout, Stderr, kind_of, Piece, E
 use Rattle.fcgi_records.specs.Laws.{GoesOn}
 use Rattle.fcgi_records.proofs.Held.{Held, pieces_append, are_append, print_append, stdout_append}
 use Rattle.fcgi_records.proofs.Told.{InContent, InPadding, InStatus, InUnused, InEndPadding, Told}
-use Rattle.fcgi_records.proofs.Said.{told_all, own_all}
+use Rattle.fcgi_records.proofs.ReadingLemmas.{own_all}
+use Rattle.fcgi_records.proofs.Said.{told_all}
 
 abbrev zeros : ℕ → List ℕ
 zeros n = replicate n 0

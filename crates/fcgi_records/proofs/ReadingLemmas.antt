@@ -1,6 +1,7 @@
 -- What bytes say, part by part.
 use Rattle.std.proofs.Common.{◌≡◌, zero, suc, ℕ, ◌+◌, ◌-◌, ◌<◌, ◌≤◌, ◌==◌, Bool, true, false, cond, List, [], ◌∷◌, ◌++◌, length, take, drop, get_or, refl, ap, sym, subst, ◌∙◌, append_assoc, append-nil, length-append, arith}
 use Rattle.std.proofs.lemmas.List.{take_more}
+use Rattle.std.proofs.lemmas.Bool.{false≢true}
 use Rattle.std.proofs.lemmas.Bool.Decides.{nat_tests}
 use Rattle.fcgi_records.specs.declared.state.State.{State}
 use Rattle.fcgi_records.specs.declared.state.State.TheVariants as state
@@ -111,3 +112,21 @@ unfolding state_after stdout_in taken_in step
 rests s [] broken = (refl, refl, refl)
 rests (state.Broken why) (b ∷ bytes) broken = let r = rests (state.Broken why) bytes broken in (r.0, r.1, omega (arith, r.2))
 rests other (b ∷ bytes) broken = cc
+
+pub broken_cases : (s : State) (P : Type 0) → (is_broken s ≡ true → P) → (is_broken s ≡ false → P) → P
+broken_cases s P one two = by (is_broken s) refl
+  where
+    by : (t : Bool) → is_broken s ≡ t → P
+    by true e = one e
+    by false e = two e
+
+-- all bytes are read where nothing is refused
+pub own_all : (s : State) (bytes : List ℕ) → is_broken (state_after s bytes) ≡ false → taken_in s bytes ≡ length bytes
+unfolding state_after taken_in
+own_all s [] going = refl
+own_all s (b ∷ bytes) going = broken_cases s (cond (is_broken s) 0 1 + taken_in (step s b) bytes ≡ suc (length bytes))
+    (λ broken. absurd (false≢true (sym going ∙ over s broken (rests s (b ∷ bytes) broken).0)))
+    (λ open_is. ap (λ (x : Bool). cond x 0 1 + taken_in (step s b) bytes) open_is ∙ omega (arith, own_all (step s b) bytes going))
+  where
+    over : (s : State) → is_broken s ≡ true → state_after s (b ∷ bytes) ≡ s → is_broken (state_after s (b ∷ bytes)) ≡ true
+    over s broken stays = ap is_broken stays ∙ broken

@@ -1,17 +1,17 @@
 -- The laws on what bytes say.
 use Rattle.std.proofs.Common.{◌≡◌, suc, ℕ, ◌+◌, ◌-◌, ◌/◌, ◌%◌, ◌<◌, ◌==◌, Bool, true, false, cond, List, [], ◌∷◌, ◌++◌, length, take, refl, ap, sym, subst, ◌∙◌, append_assoc, append-nil, length-append, length-drop, take_all, arith}
-use Rattle.std.proofs.lemmas.Bool.{cond_both, eqb-false, false≢true}
+use Rattle.std.proofs.lemmas.Bool.{cond_both, eqb-false}
 use Rattle.fcgi_records.specs.declared.header.Header.{Header}
 use Rattle.fcgi_records.specs.declared.state.Cause.{Cause}
 use Rattle.fcgi_records.specs.declared.state.State.{State}
 use Rattle.fcgi_records.specs.declared.state.State.TheVariants as state
-use Rattle.fcgi_records.specs.States.{number, step, judged, by_kind, is_broken, kept_from, in_padding, in_stdout, in_stderr, in_status, in_unused, in_end_padding, after_protocol}
+use Rattle.fcgi_records.specs.States.{number, step, judged, by_kind, is_broken, kept_from, in_padding, in_stdout, in_stderr, in_status, in_unused, in_end_padding, after_protocol, answer_from}
 use Rattle.fcgi_records.specs.Sound.{IsSoundState}
-use Rattle.fcgi_records.specs.Reading.{state_after, stdout_in, taken_in, Done, Broken, said_at, said}
+use Rattle.fcgi_records.specs.Reading.{state_after, stdout_in, taken_in, Done, Broken, said_at, said, answer_of}
 use Rattle.fcgi_records.specs.Grammar.{Stdout, Piece, Ending, Answer, ArePieces, IsAnswer, print_pieces, print_ending, print, stdout_of}
 use Rattle.fcgi_records.specs.Encoded.{header_of}
 use Rattle.fcgi_records.specs.Laws.{Spells, IsRefused, records_of, AreShort, joined, served}
-use Rattle.fcgi_records.proofs.ReadingLemmas.{rests}
+use Rattle.fcgi_records.proofs.ReadingLemmas.{rests, own_all, broken_cases}
 use Rattle.fcgi_records.proofs.Moving.{Goes, goes_on}
 use Rattle.fcgi_records.proofs.Printed.{pieces_then, ending_then, break_then}
 use Rattle.fcgi_records.proofs.Held.{held_nothing, pieces_append}
@@ -66,13 +66,6 @@ sound_step (state.Unused left padding) b sound = sound_unused (left - 1) padding
 sound_step (state.EndPadding left) b sound = sound_end (left - 1)
 sound_step other b sound = tt
 
-broken_cases : (s : State) (P : Type 0) → (is_broken s ≡ true → P) → (is_broken s ≡ false → P) → P
-broken_cases s P one two = by (is_broken s) refl
-  where
-    by : (t : Bool) → is_broken s ≡ t → P
-    by true e = one e
-    by false e = two e
-
 -- all that is read is told
 told_after : (bytes : List ℕ) (s : State) (front out : List ℕ) → IsSoundState s → Told s front out → Told (state_after s bytes) (front ++ take (taken_in s bytes) bytes) (out ++ stdout_in s bytes)
 unfolding state_after stdout_in taken_in
@@ -99,17 +92,6 @@ told_after (b ∷ bytes) s front out sound t =
 
 pub told_all : (bytes : List ℕ) → Told (state_after state.Version bytes) (take (taken_in state.Version bytes) bytes) (stdout_in state.Version bytes)
 told_all bytes = told_after bytes state.Version [] [] tt (record { tail = []; extra = []; held = held_nothing; tells = (refl, refl) })
-
--- all bytes are read where nothing is refused
-pub own_all : (s : State) (bytes : List ℕ) → is_broken (state_after s bytes) ≡ false → taken_in s bytes ≡ length bytes
-unfolding state_after taken_in
-own_all s [] going = refl
-own_all s (b ∷ bytes) going = broken_cases s (cond (is_broken s) 0 1 + taken_in (step s b) bytes ≡ suc (length bytes))
-    (λ broken. absurd (false≢true (sym going ∙ over s broken (rests s (b ∷ bytes) broken).0)))
-    (λ open_is. ap (λ (x : Bool). cond x 0 1 + taken_in (step s b) bytes) open_is ∙ omega (arith, own_all (step s b) bytes going))
-  where
-    over : (s : State) → is_broken s ≡ true → state_after s (b ∷ bytes) ≡ s → is_broken (state_after s (b ∷ bytes)) ≡ true
-    over s broken stays = ap is_broken stays ∙ broken
 
 -- what is said tells the state
 done_at : (s : State) (stdout out : List ℕ) → said_at s stdout ≡ Done out → (s ≡ state.Whole) × (stdout ≡ out)
@@ -205,3 +187,12 @@ written_read contents short =
     let answer : Answer = record { pieces = pieces_of contents; ending = ending } in
     let is : IsAnswer answer = record { pieces = pieces_are contents; ending = record { status = refl; unused = refl } } in
     ap said (pieces_written contents served) ∙ spelled_read answer is ∙ ap Done (pieces_carry contents)
+
+-- what is answered is what is said
+answer_at : (s : State) (out : List ℕ) → answer_from s ≡ answer_of (said_at s out)
+answer_at state.Whole out = refl
+answer_at (state.Broken why) out = refl
+answer_at other out = refl
+
+pub said_answer : (bytes : List ℕ) → answer_from (state_after state.Version bytes) ≡ answer_of (said bytes)
+said_answer bytes = answer_at (state_after state.Version bytes) (stdout_in state.Version bytes)

@@ -3,9 +3,15 @@ ghost use Rattle.std.specs.Prelude.{◌≡◌, ◌+◌, ◌++◌, ℕ, List, len
 ghost use Rattle.fcgi_records.specs.declared.state.Cause.{Cause};
 ghost use Rattle.fcgi_records.specs.declared.state.State.{State};
 ghost use Rattle.fcgi_records.specs.declared.state.State.TheVariants.{Version};
-ghost use Rattle.fcgi_records.specs.Reading.{state_after, stdout_in, taken_in, Open, Done, Broken, said};
+ghost use Rattle.fcgi_records.specs.States.{answer_from};
+ghost use Rattle.fcgi_records.specs.Reading.{state_after, stdout_in, taken_in, Open, Done, Broken, said, answer_of};
 ghost use Rattle.fcgi_records.specs.Grammar.{Answer, IsAnswer, print, stdout_of};
 ghost use Rattle.fcgi_records.specs.Laws.{Spells, IsRefused, GoesOn, records_of, AreShort, joined, served};
+
+/// A reader's answer is what all bytes that came say.
+pub fn what_is_said_is_answered()
+    ensures { (bytes : List ℕ) → answer_from (state_after Version bytes) ≡ answer_of (said bytes) }
+{}
 
 /// An answer that the grammar spells is read: the content of its records of STDOUT.
 pub fn what_is_spelled_is_read()
