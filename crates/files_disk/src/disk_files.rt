@@ -49,13 +49,14 @@ impl<R: rt::Files<File = File>> Files for DiskFiles<R> {
 
     ghost failed_read = { λ _. None };
 
+    // What is later has failed as often or more.
     ghost later = { λ a b. a.faults ≤ b.faults };
 
-    ghost later_same = { λ files. le_refl files.faults };
+    ghost later_same = { λ a. le_refl a.faults };
 
-    ghost later_later = { λ a b c ab bc. le_trans ab bc };
+    ghost later_later = { λ _ _ _ ab bc. le_trans ab bc };
 
-    ghost later_faults = { λ a b later. later };
+    ghost later_faults = { λ _ _ later. later };
 
     fn find(&mut self, _owner: Owner, path: &[u8]) -> Found {
         let found = look(&self.rt, path);

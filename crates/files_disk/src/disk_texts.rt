@@ -33,13 +33,14 @@ impl<R: rt::Files + AllocGlobal> Texts for DiskTexts<R> {
 
     ghost faults = { λ texts. texts.faults };
 
+    // What is later has failed as often or more.
     ghost later = { λ a b. a.faults ≤ b.faults };
 
-    ghost later_same = { λ texts. le_refl texts.faults };
+    ghost later_same = { λ a. le_refl a.faults };
 
-    ghost later_later = { λ a b c ab bc. le_trans ab bc };
+    ghost later_later = { λ _ _ _ ab bc. le_trans ab bc };
 
-    ghost later_faults = { λ a b later. later };
+    ghost later_faults = { λ _ _ later. later };
 
     fn fetch(&mut self, name: &[u8], max: u64) -> Fetched {
         let fetched = fetch_by(&self.rt, name, max);

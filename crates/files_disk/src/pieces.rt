@@ -39,13 +39,14 @@ impl<F: Read> Source for Reading<F> {
 
     ghost faults = { λ source. source.faults };
 
+    // What is later has failed as often or more.
     ghost later = { λ a b. a.faults ≤ b.faults };
 
-    ghost later_same = { λ source. le_refl source.faults };
+    ghost later_same = { λ a. le_refl a.faults };
 
-    ghost later_later = { λ a b c ab bc. le_trans ab bc };
+    ghost later_later = { λ _ _ _ ab bc. le_trans ab bc };
 
-    ghost later_faults = { λ a b later. later };
+    ghost later_faults = { λ _ _ later. later };
 
     fn read(&mut self, buf: &mut [u8]) -> Result<usize, Fault> {
         match read_once(&mut self.file, buf) {

@@ -5,7 +5,7 @@ use Rattle.lt_world.specs.declared.texts.Fetch.{Fetch}
 use Rattle.lt_world.specs.declared.texts.FetchKind.{FetchKind}
 use Rattle.lt_world.specs.declared.texts.FetchKind.TheVariants as fetch
 use Rattle.lt_script.specs.declared.script.Script.{Script}
-use Rattle.lt_script.specs.declared.script.TheConstants.{MOST_BYTES}
+use Rattle.lt_script.specs.declared.limits.TheConstants.{SCRIPT_LIMIT}
 use Rattle.lt_script.specs.Texts.{Spells, IsBadLine}
 use Rattle.lighttpd.specs.declared.status.ConfFault.{ConfFault}
 use Rattle.lighttpd.specs.declared.status.ConfKind.TheVariants as kind
@@ -27,7 +27,7 @@ HasRoot held root = (text : List ℕ) × (held ≡ Some text) × AssignsRoot tex
 
 -- the text that is held spells this script, and is short enough
 abbrev pub HasScript : Option (List ℕ) → Script → Type 0
-HasScript held script = (text : List ℕ) × (held ≡ Some text) × (length text ≤ MOST_BYTES) × Spells text script
+HasScript held script = (text : List ℕ) × (held ≡ Some text) × (length text ≤ SCRIPT_LIMIT) × Spells text script
 
 -- the root that the text under the configuration's name assigns, or why there is none
 abbrev pub ConfSays : Result (List ℕ) Status → Option (List ℕ) → Type 0
@@ -68,7 +68,7 @@ IsOnly value (Err other) = ⊥
 
 -- this line is the first outside the grammar; line 0 says that the text is too long
 abbrev pub IsWrongAt : List ℕ → ℕ → Type 0
-IsWrongAt text line = ((line ≡ 0) × (MOST_BYTES < length text)) ⊎ ((length text ≤ MOST_BYTES) × IsBadLine text line)
+IsWrongAt text line = ((line ≡ 0) × (SCRIPT_LIMIT < length text)) ⊎ ((length text ≤ SCRIPT_LIMIT) × IsBadLine text line)
 
 -- the script that the text under its name spells, or why there is none
 abbrev pub ScriptSays : Result Script Status → Option (List ℕ) → Type 0

@@ -7,7 +7,7 @@ ghost use Rattle.lt_script.specs.declared.script.Script.{Script};
 use crate::root::document_root;
 use crate::status::{ConfFault, ConfKind, Status};
 use lt_bytes::Text;
-use lt_script::{MOST_BYTES, Script, ScriptError, parse_script};
+use lt_script::{SCRIPT_LIMIT, Script, ScriptError, parse_script};
 use lt_world::{Fetched, Texts};
 use std::alloc::Global;
 
@@ -69,7 +69,7 @@ pub fn read_script<X: Texts>(alloc: Global, texts: &mut X, name: &str) -> Result
     ensures texts { X.tells → X.texts texts.new ≡ X.texts texts.old }
     ensures faults { X.faults texts.old ≤ X.faults texts.new }
 {
-    match texts.fetch(name.as_bytes(), MOST_BYTES as u64) {
+    match texts.fetch(name.as_bytes(), SCRIPT_LIMIT as u64) {
         Fetched::Text(text) => match parse_script(alloc, text.bytes()) {
             Ok(script) => Ok(script),
             Err(ScriptError::Line { number }) => Err(Status::Script { line: number }),
