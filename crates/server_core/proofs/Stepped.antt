@@ -65,11 +65,11 @@ pub fault_later : (client number : ℕ) (before later : Seen) (faults : ℕ) (fa
 fault_later client number before later faults failed_read rose owner more same = record { rose = omega (arith, rose, more); owner = record { conn = client; request = number }; is = same ∙ owner; conn = refl; request = refl }
 
 -- a fault of the file
-pub faults_goes : (failed : ℕ → Type 0) (site : Site) (held new : Held) (net files : Type 0) (before after : Disk) (old : List Entry) → 0 < length held.owed → (files → failed (number_of held.stage)) → new ≡ held → (files → after ≡ before)
-    → GoesBy Stands (DueWrite failed) site held new (Some ending.FileFault) net files before after old old
-faults_goes failed site held new net files before after old some fault same disk =
-    same_goes Stands (DueWrite failed) (DueWrite failed) site held new net files before after after old old (λ f was is past all due. due) (λ f. sym (disk f)) (Some ending.FileFault)
-    (write_faults failed site held net files after old new some fault (ap (λ (h : Held). h.link) same) (ap (λ (h : Held). h.file) same))
+pub faults_goes : (sound : Type 0) (failed : ℕ → Type 0) (site : Site) (held new : Held) (net files : Type 0) (before after : Disk) (old : List Entry) → 0 < length held.owed → (files → failed (number_of held.stage)) → new ≡ held → (files → after ≡ before)
+    → GoesBy Stands (DueWrite sound failed) site held new (Some ending.FileFault) net files before after old old
+faults_goes sound failed site held new net files before after old some fault same disk =
+    same_goes Stands (DueWrite sound failed) (DueWrite sound failed) site held new net files before after after old old (λ f was is past all due. due) (λ f. sym (disk f)) (Some ending.FileFault)
+    (write_faults sound failed site held net files after old new some fault (ap (λ (h : Held). h.link) same) (ap (λ (h : Held). h.file) same))
 
 -- what was staged keeps the stage, and what was taken too
 module _ (held mid : Held) (is : mid ≡ staged held mid.staged) (n : ℕ) where
@@ -126,28 +126,28 @@ module _ (held mid : Held) (is : mid ≡ staged held mid.staged) (n : ℕ) where
   still_same before after dropped some = subst (λ (t : Bool). Drops (if t then mid.file else None) before after) some dropped
 
 -- what is owed was staged, and offered
-module _ (failed : ℕ → Type 0) (site : Site) (held mid : Held) (net files : Type 0) (before disk : Disk) (old now : List Entry)
+module _ (sound : Type 0) (failed : ℕ → Type 0) (site : Site) (held mid : Held) (net files : Type 0) (before disk : Disk) (old now : List Entry)
     (is : mid ≡ staged held mid.staged) (some : 0 < length held.owed) (reads : files → Shows before.table held.owed held.staged → Shows before.table held.owed mid.staged) (same : files → disk ≡ before)
-    (front : List ℕ) (leads : Leads mid.owed mid.staged front) (any : 1 ≤ length front) (most : length front ≤ offer_limit) where
+    (front : List ℕ) (leads : Leads mid.owed mid.staged front) (any : 1 ≤ length front) (most : length front ≤ offer_limit) (unfailed : files → sound) where
   reads_on : files → Shows disk.table held.owed held.staged → Shows disk.table held.owed mid.staged
   reads_on f shows =
       let P : List ℕ → Disk → Type 0 = λ bytes d. Shows d.table held.owed bytes in
       subst (P mid.staged) (sym (same f)) (reads f (subst (P held.staged) (same f) shows))
 
-  via : (new : Held) (after : Disk) (result : Option Ending) → GoesBy Stands (DueWrite failed) site mid new result net files disk after old now → GoesBy Stands (DueWrite failed) site held new result net files before after old now
-  via new after result goes = same_goes Stands (DueWrite failed) (DueWrite failed) site held new net files before disk after old now (λ f was is past all due. due) (λ f. sym (same f)) result
-      (staged_then failed site held net files disk mid.staged new result after old now some reads_on (subst (λ (h : Held). GoesBy Stands (DueWrite failed) site h new result net files disk after old now) is goes))
+  via : (new : Held) (after : Disk) (result : Option Ending) → GoesBy Stands (DueWrite sound failed) site mid new result net files disk after old now → GoesBy Stands (DueWrite sound failed) site held new result net files before after old now
+  via new after result goes = same_goes Stands (DueWrite sound failed) (DueWrite sound failed) site held new net files before disk after old now (λ f was is past all due. due) (λ f. sym (same f)) result
+      (staged_then sound failed site held net files disk mid.staged new result after old now some reads_on (subst (λ (h : Held). GoesBy Stands (DueWrite sound failed) site h new result net files disk after old now) is goes))
 
-  pub offered_not_yet : (net → now ≡ told mid.link (Ours (NotYet Writing) ∷ []) old) → (files → Fits before.table held) → GoesBy Stands (DueWrite failed) site held mid None net files before disk old now
-  offered_not_yet gains fits = via mid disk None (write_not_yet failed site mid net files disk old now front leads any most gains
+  pub offered_not_yet : (net → now ≡ told mid.link (Ours (NotYet Writing) ∷ []) old) → (files → Fits before.table held) → GoesBy Stands (DueWrite sound failed) site held mid None net files before disk old now
+  offered_not_yet gains fits = via mid disk None (write_not_yet sound failed site mid net files disk old now front leads any most unfailed gains
       (λ f. let here = fits f in subst (λ (d : Disk). Fits d.table mid) (sym (same f)) (subst (Fits before.table) (sym is) (record { is_open = here.is_open; owed = here.owed }))))
 
-  pub offered_failed : (net → now ≡ told mid.link (Ours (Failed Writing) ∷ []) old) → GoesBy Stands (DueWrite failed) site held mid (Some ending.ClientFault) net files before disk old now
-  offered_failed gains = via mid disk (Some ending.ClientFault) (write_failed failed site mid net files disk old now front leads any most gains)
+  pub offered_failed : (net → now ≡ told mid.link (Ours (Failed Writing) ∷ []) old) → GoesBy Stands (DueWrite sound failed) site held mid (Some ending.ClientFault) net files before disk old now
+  offered_failed gains = via mid disk (Some ending.ClientFault) (write_failed sound failed site mid net files disk old now front leads any most unfailed gains)
 
   pub offered_wrote : (between after : Disk) (mid_new new : Held) (result : Option Ending) (n : ℕ) → n ≤ length front → (net → now ≡ told mid.link (Ours (Wrote (length front) (take n front)) ∷ []) old) → mid_new ≡ wrote mid n
-      → (files → Drops (done_file mid n) disk between) → SettlesTo (looks mid_new) site mid_new new result files between after → GoesBy Stands (DueWrite failed) site held new result net files before after old now
-  offered_wrote between after mid_new new result n le gains took_is dropped settles = via new after result (write_then failed site mid net files disk old now front leads any most between after new result n le gains
+      → (files → Drops (done_file mid n) disk between) → SettlesTo (looks mid_new) site mid_new new result files between after → GoesBy Stands (DueWrite sound failed) site held new result net files before after old now
+  offered_wrote between after mid_new new result n le gains took_is dropped settles = via new after result (write_then sound failed site mid net files disk old now front leads any most unfailed between after new result n le gains
       dropped
       (subst (λ (h : Held). SettlesTo (looks h) site h new result files between after) took_is settles))
 

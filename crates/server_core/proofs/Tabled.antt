@@ -17,7 +17,7 @@ use Rattle.server_model.specs.Serves.{Stands}
 use Rattle.server_model.specs.Turns.{Seen, StepsBy, TurnsOn}
 use Rattle.server_model.proofs.Changing.{Changes, table_on}
 use Rattle.server_model.proofs.Requests.{front_of_nil}
-use Rattle.server_model.proofs.Turning.{IsReady, IsDue, turn_step, backs_step}
+use Rattle.server_model.proofs.Turning.{IsReady, IsSound, IsDue, turn_step, backs_step}
 use Rattle.connection.specs.Connection.{Connected}
 use Rattle.server_core.specs.Steps.{IsResting}
 use Rattle.server_core.specs.Table.{helds, serving, held_count, Rising, AllResting, IsKept}
@@ -37,10 +37,10 @@ module _ (event : Act) (due : Seen → Seen → ℕ → World → World → List
     (link : ℕ) (site : Site) (conns next : List Connected) (held : Held) (now : Option Held) (net files : Type 0) (before after : Seen) (old told_now : List Entry)
     (here : held.link ≡ link) (kept : kept_at link (helds conns) ≡ Some held) (change : Changes link (helds conns) (helds next) now) (backs : files → Backs before.disk.table (helds conns))
     (step : StepsBy Stands (due before after held.link) site held now net files before.disk after.disk old told_now) where
-  pub conns_turn : before.faults ≤ after.faults → TurnsOn event link (serving site conns) (serving site next) net files before after old told_now
-  conns_turn rises =
+  pub conns_turn : before.faults ≤ after.faults → (files → IsSound event before after) → TurnsOn event link (serving site conns) (serving site next) net files before after old told_now
+  conns_turn rises sound =
       let P : ℕ → Type 0 = λ l. (kept_at l (helds conns) ≡ Some held) → Changes l (helds conns) (helds next) now → TurnsOn event l (serving site conns) (serving site next) net files before after old told_now in
-      subst P here (λ k ch. turn_step event due ready is_due site (helds conns) (helds next) held now net files before after old told_now k ch backs step rises) kept change
+      subst P here (λ k ch. turn_step event due ready is_due site (helds conns) (helds next) held now net files before after old told_now k ch backs step rises sound) kept change
 
   pub conns_backs : files → Backs after.disk.table (helds next)
   conns_backs f =

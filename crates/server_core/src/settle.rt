@@ -54,6 +54,7 @@ pub(crate) fn settle<F: Files>(
     ensures filled { store.new.filled ≤ store.old.filled + SETTLE_FILL }
     ensures kept { Kept store.old conn.old.numbers store.new conn.new.numbers }
     ensures faults { F.faults files.old ≤ F.faults files.new }
+    ensures failed_read { F.tells → F.failed_read files.new ≡ F.failed_read files.old }
     ensures later { F.later files.old files.new }
 {
     let Ok(stage) = conn.advance(store) else {
@@ -82,6 +83,7 @@ fn read_body<F: Files>(
     ensures filled { store.new.filled ≤ store.old.filled + length conn.old.held.input + 25 + REPLY_FILL }
     ensures kept { Kept store.old conn.old.numbers store.new conn.new.numbers }
     ensures faults { F.faults files.old ≤ F.faults files.new }
+    ensures failed_read { F.tells → F.failed_read files.new ≡ F.failed_read files.old }
     ensures later { F.later files.old files.new }
 {
     let settings = settings_for(site, conn);
@@ -114,6 +116,7 @@ fn go_on<F: Files>(
     ensures filled { store.new.filled ≤ store.old.filled + REPLY_FILL }
     ensures kept { Kept store.old conn.old.numbers store.new conn.new.numbers }
     ensures faults { F.faults files.old ≤ F.faults files.new }
+    ensures failed_read { F.tells → F.failed_read files.new ≡ F.failed_read files.old }
     ensures later { F.later files.old files.new }
 {
     match stage {
@@ -148,6 +151,7 @@ fn respond<F: Files>(
     ensures filled { store.new.filled ≤ store.old.filled + REPLY_FILL }
     ensures kept { Kept store.old conn.old.numbers store.new conn.new.numbers }
     ensures faults { F.faults files.old ≤ F.faults files.new }
+    ensures failed_read { F.tells → F.failed_read files.new ≡ F.failed_read files.old }
     ensures later { F.later files.old files.new }
 {
     let owner = conn.owner();
@@ -184,6 +188,7 @@ fn serve<F: Files>(
     ensures filled { store.new.filled ≤ store.old.filled + REPLY_FILL }
     ensures kept { Kept store.old conn.old.numbers store.new conn.new.numbers }
     ensures faults { F.faults files.old ≤ F.faults files.new }
+    ensures failed_read { F.tells → F.failed_read files.new ≡ F.failed_read files.old }
     ensures later { F.later files.old files.new }
 {
     match planned {
@@ -243,6 +248,7 @@ fn send_file<F: Files>(
     ensures filled { store.new.filled ≤ store.old.filled + REPLY_FILL }
     ensures kept { Kept store.old conn.old.numbers store.new conn.new.numbers }
     ensures faults { F.faults files.old ≤ F.faults files.new }
+    ensures failed_read { F.tells → F.failed_read files.new ≡ F.failed_read files.old }
     ensures later { F.later files.old files.new }
 {
     let Ok(head) = site.replies.file_head(site.alloc, tag, form, size) else {

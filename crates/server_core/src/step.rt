@@ -5,7 +5,7 @@ ghost use Rattle.lt_world.specs.Trace.{Close, said};
 ghost use Rattle.server_model.specs.Files.{Drops, Fits};
 ghost use Rattle.server_model.specs.Serves.{Stands};
 ghost use Rattle.server_model.specs.Due.{DueRead, DueWrite};
-ghost use Rattle.server_model.specs.Turns.{Seen, GoesBy};
+ghost use Rattle.server_model.specs.Turns.{Seen, NoReadFailed, GoesBy};
 ghost use Rattle.server_model.specs.Steps.{room_of, wants_read, wrote};
 ghost use Rattle.server_core.specs.Served.{served};
 ghost use Rattle.server_core.specs.Steps.{IsResting, WaitsOn, FailsFor, done_file, seen_as};
@@ -94,6 +94,7 @@ pub(crate) fn read_for<N: Net, F: Files>(
     ensures left { N.ends → N.left net.new ≤ N.left net.old }
     ensures net_later { N.later net.old net.new }
     ensures faults { F.faults files.old ≤ F.faults files.new }
+    ensures failed_read { F.tells → F.failed_read files.new ≡ F.failed_read files.old }
     ensures later { F.later files.old files.new }
 {
     let room = conn.room();
@@ -143,6 +144,7 @@ fn receive<N: Net, F: Files>(
     ensures left { N.ends → N.left net.new ≤ N.left net.old }
     ensures net_later { N.later net.old net.new }
     ensures faults { F.faults files.old ≤ F.faults files.new }
+    ensures failed_read { F.tells → F.failed_read files.new ≡ F.failed_read files.old }
     ensures later { F.later files.old files.new }
 {
     match net.read(conn.link(), buf) {
@@ -177,7 +179,7 @@ pub(crate) fn write_for<N: Net, F: Files>(
     requires fits { F.tells → Fits (F.disk files.old).table conn.old.held }
     // What is seen later tells of a failed read too.
     ensures goes { (later : Seen) → F.faults files.new ≤ later.faults → (F.tells → later.failed_read ≡ F.failed_read files.new) →
-        GoesBy Stands (DueWrite (FailsFor conn.old.held.link (seen_as (F.disk files.old) (F.faults files.old) (F.failed_read files.old)) later))
+        GoesBy Stands (DueWrite (NoReadFailed (seen_as (F.disk files.old) (F.faults files.old) (F.failed_read files.old)) later) (FailsFor conn.old.held.link (seen_as (F.disk files.old) (F.faults files.old) (F.failed_read files.old)) later))
         (served site.now) conn.old.held conn.new.held result N.tells F.tells (F.disk files.old) (F.disk files.new) (N.trace net.old) (N.trace net.new) }
     ensures link { conn.new.held.link ≡ conn.old.held.link }
     ensures waits { WaitsOn result conn.new.held }
@@ -218,6 +220,7 @@ fn wrote<F: Files>(conn: &mut Conn, store: &mut Store, files: &mut F, n: usize)
     ensures filled { store.new.filled ≡ store.old.filled }
     ensures kept { Kept store.old conn.old.numbers store.new conn.new.numbers }
     ensures faults { F.faults files.old ≤ F.faults files.new }
+    ensures failed_read { F.tells → F.failed_read files.new ≡ F.failed_read files.old }
     ensures later { F.later files.old files.new }
 {
     match conn.wrote(store, n) {

@@ -98,7 +98,7 @@ module _ (link : ℕ) (peer local : Address) (site : Site) (table next : List He
             event = Accepted peer local;
             parts = record { client = link; deeds = [] } ∷ [];
             gains = gained;
-            due = (refl, tt, subst (DueArrival (open_clients trace) peer local (own link trace)) (sym (ap (own link) gained ∙ one)) (DueArrival.comes (omega (arith, room, serves.count))));
+            due = (refl, tt, (refl, subst (DueArrival (open_clients trace) peer local (own link trace)) (sym (ap (own link) gained ∙ one)) (DueArrival.comes (omega (arith, room, serves.count)))));
             grows = grows_none seen;
           },
         )
@@ -128,8 +128,11 @@ module _ (link : ℕ) (peer local : Address) (site : Site) (table next : List He
             due = (
               refl,
               (refl, tt),
-              subst (DueArrival (open_clients trace) peer local (own link trace)) (sym (ap (own link) is ∙ two))
-                  (subst (λ (k : ℕ). DueArrival k peer local (own link trace) (Ours (Close e) ∷ Ours (Accepted peer local) ∷ own link trace)) (sym serves.count) (due (own link trace))),
+              (
+                refl,
+                subst (DueArrival (open_clients trace) peer local (own link trace)) (sym (ap (own link) is ∙ two))
+                    (subst (λ (k : ℕ). DueArrival k peer local (own link trace) (Ours (Close e) ∷ Ours (Accepted peer local) ∷ own link trace)) (sym serves.count) (due (own link trace))),
+              ),
             );
             grows = grows_none seen;
           },

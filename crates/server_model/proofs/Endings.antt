@@ -15,7 +15,7 @@ use Rattle.server_model.specs.Open.{open_clients}
 use Rattle.server_model.specs.Client.{has_failed}
 use Rattle.server_model.specs.Causes.{IsCause}
 use Rattle.server_model.specs.Due.{Settles, rests, finishes, fails, yields, DueArrival, comes, refused, full, DueRead, DueWrite, Due}
-use Rattle.server_model.specs.Turns.{Seen, ReadFailed, Part, all_told, DueParts}
+use Rattle.server_model.specs.Turns.{Seen, NoReadFailed, ReadFailed, Part, all_told, DueParts}
 use Rattle.server_model.specs.Runs.{Told, IsRun, none, more}
 use Rattle.server_model.proofs.Owned.{own_entry_other, own-told_other}
 use Rattle.server_model.proofs.Settled.{open_has_no_ending}
@@ -60,23 +60,23 @@ read_due : (before after : World) (past now : List Deed) (faulted : Type 0) (e :
 read_due before after past now faulted e (DueRead.idle w) is = inl is
 read_due before after past now faulted e (DueRead.reads act w a s) is = inr (settled _ _ _ _ faulted e s is)
 
-write_due : (failed : ℕ → Type 0) (before after : World) (past now : List Deed) (e : Ending) → DueWrite failed before after past now → EndsSo e now → EndsSo e past ⊎ HasCause e now ((k : ℕ) × failed k)
-write_due failed before after past now e (DueWrite.idle w) is = inl is
-write_due failed before after past now e (DueWrite.writes act w a s) is = inr (settled _ _ _ _ ((k : ℕ) × failed k) e s is)
-write_due failed before after past now e (DueWrite.faults w f) is = inr (closed ending.FileFault e past ((k : ℕ) × failed k) is (_, f))
+write_due : (sound : Type 0) (failed : ℕ → Type 0) (before after : World) (past now : List Deed) (e : Ending) → DueWrite sound failed before after past now → EndsSo e now → EndsSo e past ⊎ HasCause e now ((k : ℕ) × failed k)
+write_due sound failed before after past now e (DueWrite.idle w o) is = inl is
+write_due sound failed before after past now e (DueWrite.writes act w a o s) is = inr (settled _ _ _ _ ((k : ℕ) × failed k) e s is)
+write_due sound failed before after past now e (DueWrite.faults w f) is = inr (closed ending.FileFault e past ((k : ℕ) × failed k) is (_, f))
 
-due : (open_now : ℕ) (event : Act) (failed : ℕ → Type 0) (before after : World) (past now : List Deed) (e : Ending) → Due open_now event failed before after past now → EndsSo e now
+due : (open_now : ℕ) (event : Act) (sound : Type 0) (failed : ℕ → Type 0) (before after : World) (past now : List Deed) (e : Ending) → Due open_now event sound failed before after past now → EndsSo e now
     → EndsSo e past ⊎ HasCause e now ((k : ℕ) × failed k)
-due open_now (Accepted peer local) failed before after past now e d is = inr (arrived open_now peer local past now ((k : ℕ) × failed k) e d is)
-due open_now Readable failed before after past now e d is = read_due before after past now ((k : ℕ) × failed k) e d is
-due open_now Writable failed before after past now e d is = write_due failed before after past now e d is
-due open_now (Read asked bytes) failed before after past now e d is = absurd d
-due open_now ReadEnd failed before after past now e d is = absurd d
-due open_now (NotYet way) failed before after past now e d is = absurd d
-due open_now (Failed way) failed before after past now e d is = absurd d
-due open_now (Wrote offered bytes) failed before after past now e d is = absurd d
-due open_now (Connect owner to link) failed before after past now e d is = absurd d
-due open_now (Close ending) failed before after past now e d is = absurd d
+due open_now (Accepted peer local) sound failed before after past now e d is = inr (arrived open_now peer local past now ((k : ℕ) × failed k) e d.1 is)
+due open_now Readable sound failed before after past now e d is = read_due before after past now ((k : ℕ) × failed k) e d.1 is
+due open_now Writable sound failed before after past now e d is = write_due sound failed before after past now e d is
+due open_now (Read asked bytes) sound failed before after past now e d is = absurd d
+due open_now ReadEnd sound failed before after past now e d is = absurd d
+due open_now (NotYet way) sound failed before after past now e d is = absurd d
+due open_now (Failed way) sound failed before after past now e d is = absurd d
+due open_now (Wrote offered bytes) sound failed before after past now e d is = absurd d
+due open_now (Connect owner to link) sound failed before after past now e d is = absurd d
+due open_now (Close ending) sound failed before after past now e d is = absurd d
 
 -- what failed once has failed
 
@@ -112,7 +112,7 @@ in_part : (site : Site) (event : Act) (link : ℕ) (parts : List Part) (before a
     → (client : ℕ) (e : Ending) → EndsSo e (own client now) → EndsSo e (own client old) ⊎ HasCause e (own client now) (Rose before.faults after.faults)
 in_part site event link [] before after old now gains d client e is = absurd d
 in_part site event link (p ∷ []) before after old now gains d client e is = elim (cases_eq client p.client) [
-  | inl here ↦ elim (due (open_clients old) event (λ k. ReadFailed p.client k before after) _ _ (own p.client old) (own p.client now) e d.2 (subst (λ (c : ℕ). EndsSo e (own c now)) here is)) [
+  | inl here ↦ elim (due (open_clients old) event (NoReadFailed before after) (λ k. ReadFailed p.client k before after) _ _ (own p.client old) (own p.client now) e d.2 (subst (λ (c : ℕ). EndsSo e (own c now)) here is)) [
     | inl was ↦ inl (subst (λ (c : ℕ). EndsSo e (own c old)) (sym here) was)
     | inr cause ↦ inr (cause_stays e (own p.client now) (own client now) ((k : ℕ) × ReadFailed p.client k before after) (Rose before.faults after.faults)
         (subst (λ (c : ℕ). has_failed (ours (own c now)) ≡ true) (sym here)) (λ f. f.1.rose) cause)

@@ -87,47 +87,47 @@ looks_all opened world held acts n (Answering k last) at waiting some is =
     let none : drop n held.owed ≡ [] = no_items (drop n held.owed) (and_true (not last) (has_no_items (drop n held.owed)) is).1 in
     omega (arith, ap length none, length-drop n held.owed)
 
-module _ (failed : ℕ → Type 0) (site : Site) (held : Held) (net files : Type 0) (before : Disk) where
+module _ (sound : Type 0) (failed : ℕ → Type 0) (site : Site) (held : Held) (net files : Type 0) (before : Disk) where
   -- nothing is owed
-  pub write_idle : (old : List Entry) → held.owed ≡ [] → (files → Fits before.table held) → StepsBy Stands (DueWrite failed) site held (Some held) net files before before old old
-  write_idle old none fits = step_none Stands (DueWrite failed) site held net files before old old fits
-      (λ f past s. (s, DueWrite.idle (stands_owes before.table (world_of site before held.link past) held (ours past) s ∙ ap (λ (l : List Item). nat_lt 0 (length (bytes_of before.table l))) none)))
+  pub write_idle : (old : List Entry) → held.owed ≡ [] → (files → Fits before.table held) → (files → sound) → StepsBy Stands (DueWrite sound failed) site held (Some held) net files before before old old
+  write_idle old none fits unfailed = step_none Stands (DueWrite sound failed) site held net files before old old fits
+      (λ f past s. (s, DueWrite.idle (stands_owes before.table (world_of site before held.link past) held (ours past) s ∙ ap (λ (l : List Item). nat_lt 0 (length (bytes_of before.table l))) none) (unfailed f)))
 
   owing : (past : List Deed) → 0 < length held.owed → Stands before.table (world_of site before held.link past) held (ours past) → owes (world_of site before held.link past) (ours past) ≡ true
   owing past some s = some_owed (world_of site before held.link past) (ours past) (bytes_of before.table held.owed) (stands_owes before.table (world_of site before held.link past) held (ours past) s) (omega (arith, some, length-bytes_of before.table held.owed))
 
   -- the read of the file failed
-  pub write_faults : (old : List Entry) (new : Held) → 0 < length held.owed → (files → failed (number_of held.stage)) → new.link ≡ held.link → new.file ≡ held.file → StopsBy Stands (DueWrite failed) site held new ending.FileFault net files before before old old
-  write_faults old new some fault link file = step_stops Stands (DueWrite failed) site held net files before old old ending.FileFault new [] tt (λ n. refl) (λ trace. refl) link file
+  pub write_faults : (old : List Entry) (new : Held) → 0 < length held.owed → (files → failed (number_of held.stage)) → new.link ≡ held.link → new.file ≡ held.file → StopsBy Stands (DueWrite sound failed) site held new ending.FileFault net files before before old old
+  write_faults old new some fault link file = step_stops Stands (DueWrite sound failed) site held net files before old old ending.FileFault new [] tt (λ n. refl) (λ trace. refl) link file
       (λ f past s.
       let same : number_of held.stage ≡ (current (world_of site before held.link past) (ours past)).number = sym (stands_number before.table (world_of site before held.link past) held (ours past) s) in
       (matches_right before.table (world_of site before held.link past) held (ours past) s.matches, (λ e. absurd (cc (e))), DueWrite.faults (owing past some s) (subst failed same (fault f))))
 
-  module _ (old now : List Entry) (front : List ℕ) (leads : Leads held.owed held.staged front) (some : 1 ≤ length front) (most : length front ≤ offer_limit) where
+  module _ (old now : List Entry) (front : List ℕ) (leads : Leads held.owed held.staged front) (some : 1 ≤ length front) (most : length front ≤ offer_limit) (unfailed : files → sound) where
     pub some_first : 0 < length held.owed
     some_first = leads_some held.owed held.staged front leads some
 
     shown : (past : List Deed) → Stands before.table (world_of site before held.link past) held (ours past) → Shows before.table held.owed front
     shown past s = front_shows before.table held.owed held.staged front leads (matches_shows before.table (world_of site before held.link past) held (ours past) s.matches some_first)
 
-    pub write_not_yet : (net → now ≡ told held.link (Ours (NotYet Writing) ∷ []) old) → (files → Fits before.table held) → StepsBy Stands (DueWrite failed) site held (Some held) net files before before old now
-    write_not_yet gains fits = then_step Stands Stands (DueWrite failed) (DueSettles false) site held held (Some held) net files before before before old now now (Ours (NotYet Writing) ∷ []) (refl, tt) gains (λ trace. refl) (λ f. same_files held.link before held.file) refl
+    pub write_not_yet : (net → now ≡ told held.link (Ours (NotYet Writing) ∷ []) old) → (files → Fits before.table held) → StepsBy Stands (DueWrite sound failed) site held (Some held) net files before before old now
+    write_not_yet gains fits = then_step Stands Stands (DueWrite sound failed) (DueSettles false) site held held (Some held) net files before before before old now now (Ours (NotYet Writing) ∷ []) (refl, tt) gains (λ trace. refl) (λ f. same_files held.link before held.file) refl
         (λ f past s. stands_not_yet before.table (world_of site before held.link past) held (ours past) Writing s)
-        (λ f past all s settles. DueWrite.writes (NotYet Writing) (owing past some_first s) tt settles)
+        (λ f past all s settles. DueWrite.writes (NotYet Writing) (owing past some_first s) tt (unfailed f) settles)
         (step_none Stands (DueSettles false) site held net files before now now fits (λ f past s. (s, Settles.rests (stands_rests before.table (world_of site before held.link past) held past s))))
 
-    pub write_failed : (net → now ≡ told held.link (Ours (Failed Writing) ∷ []) old) → StopsBy Stands (DueWrite failed) site held held ending.ClientFault net files before before old now
-    write_failed gains = step_stops Stands (DueWrite failed) site held net files before old now ending.ClientFault held (Ours (Failed Writing) ∷ []) (refl, tt) gains (λ trace. refl) refl refl
+    pub write_failed : (net → now ≡ told held.link (Ours (Failed Writing) ∷ []) old) → StopsBy Stands (DueWrite sound failed) site held held ending.ClientFault net files before before old now
+    write_failed gains = step_stops Stands (DueWrite sound failed) site held net files before old now ending.ClientFault held (Ours (Failed Writing) ∷ []) (refl, tt) gains (λ trace. refl) refl refl
         (λ f past s. (
           fails_right (world_of site before held.link past) (ours past) Writing (matches_right before.table (world_of site before held.link past) held (ours past) s.matches),
           (λ e. absurd (cc (e))),
-          DueWrite.writes (Failed Writing) (owing past some_first s) tt (Settles.fails refl),
+          DueWrite.writes (Failed Writing) (owing past some_first s) tt (unfailed f) (Settles.fails refl),
         ))
 
     -- it took some bytes, its file is given back once nothing is owed any more, and then what follows
     pub write_then : (between after : Disk) (new : Held) (result : Option Ending) (n : ℕ) → n ≤ length front → (net → now ≡ told held.link (Ours (Wrote (length front) (take n front)) ∷ []) old) → (files → Drops (given_back held n) before between)
-        → SettlesTo (looks (wrote held n)) site (wrote held n) new result files between after → GoesBy Stands (DueWrite failed) site held new result net files before after old now
-    write_then between after new result n le gains dropped settles = then_settles Stands (DueWrite failed) (looks (wrote held n)) site held (took held n) new net files before after old now
+        → SettlesTo (looks (wrote held n)) site (wrote held n) new result files between after → GoesBy Stands (DueWrite sound failed) site held new result net files before after old now
+    write_then between after new result n le gains dropped settles = then_settles Stands (DueWrite sound failed) (looks (wrote held n)) site held (took held n) new net files before after old now
         (Ours (Wrote (length front) (take n front)) ∷ []) (refl, tt) gains (λ trace. refl) refl refl
         (λ f past s. matches_took before.table (world_of site before held.link past) held (ours past) n (length front) (take n front) (front_taken before.table held.owed front (shown past s) n le) s.matches some_first)
         (λ f past all s settled.
@@ -138,18 +138,12 @@ module _ (failed : ℕ → Type 0) (site : Site) (held : Held) (net files : Type
         let all_taken = looks_all before.table (world_of site before held.link past) held (ours past) n held.stage s.matches.at s.waiting some_first (sym (looks_wrote held n) ∙ is) in
         let taken : length (take n front) ≡ n = omega (arith, length-take n front, le) in
         grind (arith, nat_tests, all_taken, count, taken) in
-        DueWrite.writes (Wrote (length front) (take n front)) (owing past some_first s) act (settles_more (world_of site after held.link past) (looks (wrote held n)) (nat_le (length (owed (world_of site before held.link past) (ours past))) (length (take n front))) may (Ours (Wrote (length front) (take n front)) ∷ past) all settled))
+        DueWrite.writes (Wrote (length front) (take n front)) (owing past some_first s) act (unfailed f) (settles_more (world_of site after held.link past) (looks (wrote held n)) (nat_le (length (owed (world_of site before held.link past) (ours past))) (length (take n front))) may (Ours (Wrote (length front) (take n front)) ∷ past) all settled))
         result (wrote_then (looks (wrote held n)) site held new files before between after n result dropped settles)
 
   -- the front was read from its file, and then what follows
   pub staged_then : (bytes : List ℕ) (new : Held) (result : Option Ending) (after : Disk) (old now : List Entry) → 0 < length held.owed → (files → Shows before.table held.owed held.staged → Shows before.table held.owed bytes)
-      → GoesBy Stands (DueWrite failed) site (staged held bytes) new result net files before after old now → GoesBy Stands (DueWrite failed) site held new result net files before after old now
-  staged_then bytes new result after old now some reads goes = on_goes Stands Stands (DueWrite failed) site held (staged held bytes) new net files before after old now refl refl
+      → GoesBy Stands (DueWrite sound failed) site (staged held bytes) new result net files before after old now → GoesBy Stands (DueWrite sound failed) site held new result net files before after old now
+  staged_then bytes new result after old now some reads goes = on_goes Stands Stands (DueWrite sound failed) site held (staged held bytes) new net files before after old now refl refl
       (λ f past s. stands_staged before.table (world_of site before held.link past) held (ours past) bytes (reads f (matches_shows before.table (world_of site before held.link past) held (ours past) s.matches some)) some s)
       result goes
-
--- a read that failed for one reason failed for a weaker one
-pub due_write_more : (failed more : ℕ → Type 0) → ((k : ℕ) → failed k → more k) → (was is : World) (past all : List Deed) → DueWrite failed was is past all → DueWrite more was is past all
-due_write_more failed more weaker was is past all (DueWrite.idle none) = DueWrite.idle none
-due_write_more failed more weaker was is past all (DueWrite.writes act some write settles) = DueWrite.writes act some write settles
-due_write_more failed more weaker was is past all (DueWrite.faults some fault) = DueWrite.faults some (weaker (current was (ours past)).number fault)

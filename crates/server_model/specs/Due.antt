@@ -70,15 +70,15 @@ pub data DueRead (before after : World) (past : List Deed) : List Deed → Type 
   reads : {now : List Deed} (act : Act) → wants before (ours past) ≡ true → IsReadAct act → Settles after (may_want_after_read act) (Ours act ∷ past) now → DueRead before after past now
 
 -- exactly one write where something is owed, or the failed read of the file in its place; else nothing
-pub data DueWrite (failed : ℕ → Type 0) (before after : World) (past : List Deed) : List Deed → Type 0 where
-  idle : owes before (ours past) ≡ false → DueWrite failed before after past past
-  writes : {now : List Deed} (act : Act) → owes before (ours past) ≡ true → IsWriteAct (owed before (ours past)) act
-      → Settles after (may_want_after_write (owed before (ours past)) act) (Ours act ∷ past) now → DueWrite failed before after past now
-  faults : owes before (ours past) ≡ true → failed (current before (ours past)).number → DueWrite failed before after past (Ours (Close ending.FileFault) ∷ past)
+pub data DueWrite (sound : Type 0) (failed : ℕ → Type 0) (before after : World) (past : List Deed) : List Deed → Type 0 where
+  idle : owes before (ours past) ≡ false → sound → DueWrite sound failed before after past past
+  writes : {now : List Deed} (act : Act) → owes before (ours past) ≡ true → IsWriteAct (owed before (ours past)) act → sound
+      → Settles after (may_want_after_write (owed before (ours past)) act) (Ours act ∷ past) now → DueWrite sound failed before after past now
+  faults : owes before (ours past) ≡ true → failed (current before (ours past)).number → DueWrite sound failed before after past (Ours (Close ending.FileFault) ∷ past)
 
--- what must follow an event of a client, while so many clients are open; `failed` says for which request a read of a file failed in this turn
-abbrev pub Due : ℕ → Act → (ℕ → Type 0) → World → World → List Deed → List Deed → Type 0
-Due open_now (Accepted peer local) failed before after past now = DueArrival open_now peer local past now
-Due open_now Readable failed before after past now = DueRead before after past now
-Due open_now Writable failed before after past now = DueWrite failed before after past now
-Due open_now act failed before after past now = ⊥
+-- what must follow an event of a client, while so many clients are open; `sound` says that no read of a file failed in this turn, and `failed` for which request one did
+abbrev pub Due : ℕ → Act → Type 0 → (ℕ → Type 0) → World → World → List Deed → List Deed → Type 0
+Due open_now (Accepted peer local) sound failed before after past now = sound × DueArrival open_now peer local past now
+Due open_now Readable sound failed before after past now = sound × DueRead before after past now
+Due open_now Writable sound failed before after past now = DueWrite sound failed before after past now
+Due open_now act sound failed before after past now = ⊥

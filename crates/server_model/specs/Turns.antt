@@ -32,6 +32,10 @@ pub record ReadFailed (client number : ℕ) (before after : Seen) : Type 0 where
   pub conn : owner.conn ≡ client
   pub request : owner.request ≡ number
 
+-- no read failed: the owner of the last one that did is as before
+abbrev pub NoReadFailed : Seen → Seen → Type 0
+NoReadFailed before after = after.failed_read ≡ before.failed_read
+
 -- what is done for one client
 pub record Part : Type 0 where
   pub client : ℕ
@@ -44,7 +48,7 @@ all_told (p ∷ parts) trace = told p.client p.deeds (all_told parts trace)
 
 -- what is due for the client of a link
 abbrev pub DueFor : Site → Act → ℕ → Seen → Seen → List Entry → List Entry → Type 0
-DueFor site event client before after old now = Due (open_clients old) event (λ k. ReadFailed client k before after) (world_of site before.disk client (own client old)) (world_of site after.disk client (own client now)) (own client old) (own client now)
+DueFor site event client before after old now = Due (open_clients old) event (NoReadFailed before after) (λ k. ReadFailed client k before after) (world_of site before.disk client (own client old)) (world_of site after.disk client (own client now)) (own client old) (own client now)
 
 -- an event of a link concerns its client alone
 abbrev pub DueParts : Site → Act → ℕ → List Part → Seen → Seen → List Entry → List Entry → Type 0

@@ -32,7 +32,7 @@ pub returns-in_default-read_for-clause-turn : goal.returns-in_default-read_for-c
 returns-in_default-read_for-clause-turn g c = conns_turn Readable due_read readable_ready readable_due c.args.link.0 (served c.args.site.now) c.args.clients.now.items (set c.args.clients.now.items c.in-Some.i c.read_for.new.conn) c.conn_mut.result.now.held (Some c.read_for.new.conn.held) g.N.Net.tells g.F.Files.tells (seen_as (g.F.Files.disk c.args.files.now) (g.F.Files.faults c.args.files.now) (g.F.Files.failed_read c.args.files.now)) (seen_as (g.F.Files.disk c.read_for.new.files) (g.F.Files.faults c.read_for.new.files) (g.F.Files.failed_read c.read_for.new.files)) (g.N.Net.trace c.args.net.now) (g.N.Net.trace c.read_for.new.net)
     (place_link c.args.link.0 c.args.clients.now.items c.in-Some.i c.conn_mut.result.now (place_as c.args.link.0 c.args.clients.now.items c.deref.result.now c.in-Some.i c.deref.ensures.value c.in-Some.ensures) (lent_at c.args.clients.now.items c.in-Some.i c.index_mut-client.result.now c.conn_mut.result.now c.conn_mut.ensures.value c.index_mut-client.ensures.value)) (place_kept c.args.link.0 c.args.clients.now.items c.in-Some.i c.conn_mut.result.now (place_as c.args.link.0 c.args.clients.now.items c.deref.result.now c.in-Some.i c.deref.ensures.value c.in-Some.ensures) (lent_at c.args.clients.now.items c.in-Some.i c.index_mut-client.result.now c.conn_mut.result.now c.conn_mut.ensures.value c.index_mut-client.ensures.value) c.requires.kept.rising)
     (place_set c.args.link.0 c.args.clients.now.items c.in-Some.i c.conn_mut.result.now (place_as c.args.link.0 c.args.clients.now.items c.deref.result.now c.in-Some.i c.deref.ensures.value c.in-Some.ensures) (lent_at c.args.clients.now.items c.in-Some.i c.index_mut-client.result.now c.conn_mut.result.now c.conn_mut.ensures.value c.index_mut-client.ensures.value) c.requires.kept.rising c.read_for.new.conn c.read_for.ensures.link) c.requires.backs
-    c.in_default-read_for.ensures.goes c.in_default-read_for.ensures.faults
+    c.in_default-read_for.ensures.goes c.in_default-read_for.ensures.faults c.in_default-read_for.ensures.failed_read
 
 pub returns-in_default-read_for-clause-kept : goal.returns-in_default-read_for-clause-kept
 returns-in_default-read_for-clause-kept g c = place_set_kept c.args.link.0 c.args.clients.now.items c.in-Some.i c.conn_mut.result.now (place_as c.args.link.0 c.args.clients.now.items c.deref.result.now c.in-Some.i c.deref.ensures.value c.in-Some.ensures) (lent_at c.args.clients.now.items c.in-Some.i c.index_mut-client.result.now c.conn_mut.result.now c.conn_mut.ensures.value c.index_mut-client.ensures.value) c.args.store.now c.requires.kept c.read_for.new.conn c.read_for.new.store c.read_for.ensures.kept c.read_for.ensures.link c.in_default-read_for.ensures.waits
@@ -60,7 +60,7 @@ returns-clause-turn g c = conns_turn Readable due_read readable_ready readable_d
     (stop_closed Stands DueRead (served c.args.site.now) c.conn_mut.result.now.held c.read_for.new.conn.held c.in-Some-read_for.ending g.N.Net.tells g.F.Files.tells (g.F.Files.disk c.args.files.now) (g.F.Files.disk c.read_for.new.files) (g.F.Files.disk c.finish.new.files) (g.N.Net.trace c.args.net.now) (g.N.Net.trace c.read_for.new.net) (g.N.Net.trace c.finish.new.net)
     c.in-Some-read_for.ensures.goes
     (λ t. close_told c.into_conn.result.held.link c.read_for.new.conn.held.link c.in-Some-read_for.ending (g.N.Net.trace c.read_for.new.net) (g.N.Net.trace c.finish.new.net) (ap (λ (k : Connected). k.held.link) (taken_is c.args.clients.now.items c.in-Some.i c.read_for.new.conn c.into_conn.result (place_below c.args.link.0 c.args.clients.now.items c.in-Some.i c.conn_mut.result.now (place_as c.args.link.0 c.args.clients.now.items c.deref.result.now c.in-Some.i c.deref.ensures.value c.in-Some.ensures) (lent_at c.args.clients.now.items c.in-Some.i c.index_mut-client.result.now c.conn_mut.result.now c.conn_mut.ensures.value c.index_mut-client.ensures.value)) (lent_at (set c.args.clients.now.items c.in-Some.i c.read_for.new.conn) c.in-Some.i c.remove.result c.into_conn.result c.into_conn.ensures c.remove.ensures.value))) (c.finish.ensures.trace t))
-    (λ f. drops_at c.into_conn.result c.read_for.new.conn (g.F.Files.disk c.read_for.new.files) (g.F.Files.disk c.finish.new.files) (taken_is c.args.clients.now.items c.in-Some.i c.read_for.new.conn c.into_conn.result (place_below c.args.link.0 c.args.clients.now.items c.in-Some.i c.conn_mut.result.now (place_as c.args.link.0 c.args.clients.now.items c.deref.result.now c.in-Some.i c.deref.ensures.value c.in-Some.ensures) (lent_at c.args.clients.now.items c.in-Some.i c.index_mut-client.result.now c.conn_mut.result.now c.conn_mut.ensures.value c.index_mut-client.ensures.value)) (lent_at (set c.args.clients.now.items c.in-Some.i c.read_for.new.conn) c.in-Some.i c.remove.result c.into_conn.result c.into_conn.ensures c.remove.ensures.value)) (c.finish.ensures.drops f))) (omega (arith, c.read_for.ensures.faults, c.finish.ensures.faults))
+    (λ f. drops_at c.into_conn.result c.read_for.new.conn (g.F.Files.disk c.read_for.new.files) (g.F.Files.disk c.finish.new.files) (taken_is c.args.clients.now.items c.in-Some.i c.read_for.new.conn c.into_conn.result (place_below c.args.link.0 c.args.clients.now.items c.in-Some.i c.conn_mut.result.now (place_as c.args.link.0 c.args.clients.now.items c.deref.result.now c.in-Some.i c.deref.ensures.value c.in-Some.ensures) (lent_at c.args.clients.now.items c.in-Some.i c.index_mut-client.result.now c.conn_mut.result.now c.conn_mut.ensures.value c.index_mut-client.ensures.value)) (lent_at (set c.args.clients.now.items c.in-Some.i c.read_for.new.conn) c.in-Some.i c.remove.result c.into_conn.result c.into_conn.ensures c.remove.ensures.value)) (c.finish.ensures.drops f))) (omega (arith, c.read_for.ensures.faults, c.finish.ensures.faults)) (λ f. c.finish.ensures.failed_read f ∙ c.read_for.ensures.failed_read f)
 
 pub returns-clause-kept : goal.returns-clause-kept
 returns-clause-kept g c = place_removed_kept c.args.link.0 c.args.clients.now.items c.in-Some.i c.conn_mut.result.now (place_as c.args.link.0 c.args.clients.now.items c.deref.result.now c.in-Some.i c.deref.ensures.value c.in-Some.ensures) (lent_at c.args.clients.now.items c.in-Some.i c.index_mut-client.result.now c.conn_mut.result.now c.conn_mut.ensures.value c.index_mut-client.ensures.value) c.args.store.now c.requires.kept c.read_for.new.conn c.read_for.new.store c.read_for.ensures.kept c.finish.new.store (kept_as c.read_for.new.store c.finish.new.store c.into_conn.result c.read_for.new.conn (taken_is c.args.clients.now.items c.in-Some.i c.read_for.new.conn c.into_conn.result (place_below c.args.link.0 c.args.clients.now.items c.in-Some.i c.conn_mut.result.now (place_as c.args.link.0 c.args.clients.now.items c.deref.result.now c.in-Some.i c.deref.ensures.value c.in-Some.ensures) (lent_at c.args.clients.now.items c.in-Some.i c.index_mut-client.result.now c.conn_mut.result.now c.conn_mut.ensures.value c.index_mut-client.ensures.value)) (lent_at (set c.args.clients.now.items c.in-Some.i c.read_for.new.conn) c.in-Some.i c.remove.result c.into_conn.result c.into_conn.ensures c.remove.ensures.value)) c.finish.ensures.kept) c.read_for.new.conn c.remove.new.self.items c.remove.ensures.by_index.2

@@ -3,6 +3,7 @@ use Rattle.lt_world.specs.Trace.{Writable}
 use Rattle.server_core.specs.Served.{served}
 use Rattle.server_model.specs.Serves.{Stands}
 use Rattle.server_model.specs.Due.{DueWrite}
+use Rattle.server_model.specs.Turns.{NoReadFailed}
 use Rattle.server_model.proofs.Going.{stop_closed}
 use Rattle.server_model.proofs.Turning.{due_write, writable_ready, writable_due, writable_quiet, turn_out, kept_fits}
 use Rattle.connection.specs.Connection.{Connected}
@@ -32,7 +33,7 @@ pub returns-in_default-write_for-clause-turn : goal.returns-in_default-write_for
 returns-in_default-write_for-clause-turn g c = conns_turn Writable due_write writable_ready writable_due c.args.link.0 (served c.args.site.now) c.args.clients.now.items (set c.args.clients.now.items c.in-Some.i c.write_for.new.conn) c.conn_mut.result.now.held (Some c.write_for.new.conn.held) g.N.Net.tells g.F.Files.tells (seen_as (g.F.Files.disk c.args.files.now) (g.F.Files.faults c.args.files.now) (g.F.Files.failed_read c.args.files.now)) (seen_as (g.F.Files.disk c.write_for.new.files) (g.F.Files.faults c.write_for.new.files) (g.F.Files.failed_read c.write_for.new.files)) (g.N.Net.trace c.args.net.now) (g.N.Net.trace c.write_for.new.net)
     (place_link c.args.link.0 c.args.clients.now.items c.in-Some.i c.conn_mut.result.now (place_as c.args.link.0 c.args.clients.now.items c.deref.result.now c.in-Some.i c.deref.ensures.value c.in-Some.ensures) (lent_at c.args.clients.now.items c.in-Some.i c.index_mut-client.result.now c.conn_mut.result.now c.conn_mut.ensures.value c.index_mut-client.ensures.value)) (place_kept c.args.link.0 c.args.clients.now.items c.in-Some.i c.conn_mut.result.now (place_as c.args.link.0 c.args.clients.now.items c.deref.result.now c.in-Some.i c.deref.ensures.value c.in-Some.ensures) (lent_at c.args.clients.now.items c.in-Some.i c.index_mut-client.result.now c.conn_mut.result.now c.conn_mut.ensures.value c.index_mut-client.ensures.value) c.requires.kept.rising)
     (place_set c.args.link.0 c.args.clients.now.items c.in-Some.i c.conn_mut.result.now (place_as c.args.link.0 c.args.clients.now.items c.deref.result.now c.in-Some.i c.deref.ensures.value c.in-Some.ensures) (lent_at c.args.clients.now.items c.in-Some.i c.index_mut-client.result.now c.conn_mut.result.now c.conn_mut.ensures.value c.index_mut-client.ensures.value) c.requires.kept.rising c.write_for.new.conn c.write_for.ensures.link) c.requires.backs
-    (c.in_default-write_for.ensures.goes (seen_as (g.F.Files.disk c.write_for.new.files) (g.F.Files.faults c.write_for.new.files) (g.F.Files.failed_read c.write_for.new.files)) (omega arith) (λ f. refl)) c.in_default-write_for.ensures.faults
+    (c.in_default-write_for.ensures.goes (seen_as (g.F.Files.disk c.write_for.new.files) (g.F.Files.faults c.write_for.new.files) (g.F.Files.failed_read c.write_for.new.files)) (omega arith) (λ f. refl)) c.in_default-write_for.ensures.faults (λ f. tt)
 
 pub returns-in_default-write_for-clause-kept : goal.returns-in_default-write_for-clause-kept
 returns-in_default-write_for-clause-kept g c = place_set_kept c.args.link.0 c.args.clients.now.items c.in-Some.i c.conn_mut.result.now (place_as c.args.link.0 c.args.clients.now.items c.deref.result.now c.in-Some.i c.deref.ensures.value c.in-Some.ensures) (lent_at c.args.clients.now.items c.in-Some.i c.index_mut-client.result.now c.conn_mut.result.now c.conn_mut.ensures.value c.index_mut-client.ensures.value) c.args.store.now c.requires.kept c.write_for.new.conn c.write_for.new.store c.write_for.ensures.kept c.write_for.ensures.link c.in_default-write_for.ensures.waits
@@ -57,10 +58,10 @@ pub returns-clause-turn : goal.returns-clause-turn
 returns-clause-turn g c = conns_turn Writable due_write writable_ready writable_due c.args.link.0 (served c.args.site.now) c.args.clients.now.items c.remove.new.self.items c.conn_mut.result.now.held None g.N.Net.tells g.F.Files.tells (seen_as (g.F.Files.disk c.args.files.now) (g.F.Files.faults c.args.files.now) (g.F.Files.failed_read c.args.files.now)) (seen_as (g.F.Files.disk c.finish.new.files) (g.F.Files.faults c.finish.new.files) (g.F.Files.failed_read c.finish.new.files)) (g.N.Net.trace c.args.net.now) (g.N.Net.trace c.finish.new.net)
     (place_link c.args.link.0 c.args.clients.now.items c.in-Some.i c.conn_mut.result.now (place_as c.args.link.0 c.args.clients.now.items c.deref.result.now c.in-Some.i c.deref.ensures.value c.in-Some.ensures) (lent_at c.args.clients.now.items c.in-Some.i c.index_mut-client.result.now c.conn_mut.result.now c.conn_mut.ensures.value c.index_mut-client.ensures.value)) (place_kept c.args.link.0 c.args.clients.now.items c.in-Some.i c.conn_mut.result.now (place_as c.args.link.0 c.args.clients.now.items c.deref.result.now c.in-Some.i c.deref.ensures.value c.in-Some.ensures) (lent_at c.args.clients.now.items c.in-Some.i c.index_mut-client.result.now c.conn_mut.result.now c.conn_mut.ensures.value c.index_mut-client.ensures.value) c.requires.kept.rising)
     (place_removed c.args.link.0 c.args.clients.now.items c.in-Some.i c.conn_mut.result.now (place_as c.args.link.0 c.args.clients.now.items c.deref.result.now c.in-Some.i c.deref.ensures.value c.in-Some.ensures) (lent_at c.args.clients.now.items c.in-Some.i c.index_mut-client.result.now c.conn_mut.result.now c.conn_mut.ensures.value c.index_mut-client.ensures.value) c.requires.kept.rising c.write_for.new.conn c.remove.new.self.items c.remove.ensures.by_index.2) c.requires.backs
-    (stop_closed Stands (DueWrite (FailsFor c.conn_mut.result.now.held.link (seen_as (g.F.Files.disk c.args.files.now) (g.F.Files.faults c.args.files.now) (g.F.Files.failed_read c.args.files.now)) (seen_as (g.F.Files.disk c.finish.new.files) (g.F.Files.faults c.finish.new.files) (g.F.Files.failed_read c.finish.new.files)))) (served c.args.site.now) c.conn_mut.result.now.held c.write_for.new.conn.held c.in-Some-write_for.ending g.N.Net.tells g.F.Files.tells (g.F.Files.disk c.args.files.now) (g.F.Files.disk c.write_for.new.files) (g.F.Files.disk c.finish.new.files) (g.N.Net.trace c.args.net.now) (g.N.Net.trace c.write_for.new.net) (g.N.Net.trace c.finish.new.net)
+    (stop_closed Stands (DueWrite (NoReadFailed (seen_as (g.F.Files.disk c.args.files.now) (g.F.Files.faults c.args.files.now) (g.F.Files.failed_read c.args.files.now)) (seen_as (g.F.Files.disk c.finish.new.files) (g.F.Files.faults c.finish.new.files) (g.F.Files.failed_read c.finish.new.files))) (FailsFor c.conn_mut.result.now.held.link (seen_as (g.F.Files.disk c.args.files.now) (g.F.Files.faults c.args.files.now) (g.F.Files.failed_read c.args.files.now)) (seen_as (g.F.Files.disk c.finish.new.files) (g.F.Files.faults c.finish.new.files) (g.F.Files.failed_read c.finish.new.files)))) (served c.args.site.now) c.conn_mut.result.now.held c.write_for.new.conn.held c.in-Some-write_for.ending g.N.Net.tells g.F.Files.tells (g.F.Files.disk c.args.files.now) (g.F.Files.disk c.write_for.new.files) (g.F.Files.disk c.finish.new.files) (g.N.Net.trace c.args.net.now) (g.N.Net.trace c.write_for.new.net) (g.N.Net.trace c.finish.new.net)
     (c.in-Some-write_for.ensures.goes (seen_as (g.F.Files.disk c.finish.new.files) (g.F.Files.faults c.finish.new.files) (g.F.Files.failed_read c.finish.new.files)) c.finish.ensures.faults c.finish.ensures.failed_read)
     (λ t. close_told c.into_conn.result.held.link c.write_for.new.conn.held.link c.in-Some-write_for.ending (g.N.Net.trace c.write_for.new.net) (g.N.Net.trace c.finish.new.net) (ap (λ (k : Connected). k.held.link) (taken_is c.args.clients.now.items c.in-Some.i c.write_for.new.conn c.into_conn.result (place_below c.args.link.0 c.args.clients.now.items c.in-Some.i c.conn_mut.result.now (place_as c.args.link.0 c.args.clients.now.items c.deref.result.now c.in-Some.i c.deref.ensures.value c.in-Some.ensures) (lent_at c.args.clients.now.items c.in-Some.i c.index_mut-client.result.now c.conn_mut.result.now c.conn_mut.ensures.value c.index_mut-client.ensures.value)) (lent_at (set c.args.clients.now.items c.in-Some.i c.write_for.new.conn) c.in-Some.i c.remove.result c.into_conn.result c.into_conn.ensures c.remove.ensures.value))) (c.finish.ensures.trace t))
-    (λ f. drops_at c.into_conn.result c.write_for.new.conn (g.F.Files.disk c.write_for.new.files) (g.F.Files.disk c.finish.new.files) (taken_is c.args.clients.now.items c.in-Some.i c.write_for.new.conn c.into_conn.result (place_below c.args.link.0 c.args.clients.now.items c.in-Some.i c.conn_mut.result.now (place_as c.args.link.0 c.args.clients.now.items c.deref.result.now c.in-Some.i c.deref.ensures.value c.in-Some.ensures) (lent_at c.args.clients.now.items c.in-Some.i c.index_mut-client.result.now c.conn_mut.result.now c.conn_mut.ensures.value c.index_mut-client.ensures.value)) (lent_at (set c.args.clients.now.items c.in-Some.i c.write_for.new.conn) c.in-Some.i c.remove.result c.into_conn.result c.into_conn.ensures c.remove.ensures.value)) (c.finish.ensures.drops f))) (omega (arith, c.write_for.ensures.faults, c.finish.ensures.faults))
+    (λ f. drops_at c.into_conn.result c.write_for.new.conn (g.F.Files.disk c.write_for.new.files) (g.F.Files.disk c.finish.new.files) (taken_is c.args.clients.now.items c.in-Some.i c.write_for.new.conn c.into_conn.result (place_below c.args.link.0 c.args.clients.now.items c.in-Some.i c.conn_mut.result.now (place_as c.args.link.0 c.args.clients.now.items c.deref.result.now c.in-Some.i c.deref.ensures.value c.in-Some.ensures) (lent_at c.args.clients.now.items c.in-Some.i c.index_mut-client.result.now c.conn_mut.result.now c.conn_mut.ensures.value c.index_mut-client.ensures.value)) (lent_at (set c.args.clients.now.items c.in-Some.i c.write_for.new.conn) c.in-Some.i c.remove.result c.into_conn.result c.into_conn.ensures c.remove.ensures.value)) (c.finish.ensures.drops f))) (omega (arith, c.write_for.ensures.faults, c.finish.ensures.faults)) (λ f. tt)
 
 pub returns-clause-kept : goal.returns-clause-kept
 returns-clause-kept g c = place_removed_kept c.args.link.0 c.args.clients.now.items c.in-Some.i c.conn_mut.result.now (place_as c.args.link.0 c.args.clients.now.items c.deref.result.now c.in-Some.i c.deref.ensures.value c.in-Some.ensures) (lent_at c.args.clients.now.items c.in-Some.i c.index_mut-client.result.now c.conn_mut.result.now c.conn_mut.ensures.value c.index_mut-client.ensures.value) c.args.store.now c.requires.kept c.write_for.new.conn c.write_for.new.store c.write_for.ensures.kept c.finish.new.store (kept_as c.write_for.new.store c.finish.new.store c.into_conn.result c.write_for.new.conn (taken_is c.args.clients.now.items c.in-Some.i c.write_for.new.conn c.into_conn.result (place_below c.args.link.0 c.args.clients.now.items c.in-Some.i c.conn_mut.result.now (place_as c.args.link.0 c.args.clients.now.items c.deref.result.now c.in-Some.i c.deref.ensures.value c.in-Some.ensures) (lent_at c.args.clients.now.items c.in-Some.i c.index_mut-client.result.now c.conn_mut.result.now c.conn_mut.ensures.value c.index_mut-client.ensures.value)) (lent_at (set c.args.clients.now.items c.in-Some.i c.write_for.new.conn) c.in-Some.i c.remove.result c.into_conn.result c.into_conn.ensures c.remove.ensures.value)) c.finish.ensures.kept) c.write_for.new.conn c.remove.new.self.items c.remove.ensures.by_index.2
@@ -73,7 +74,7 @@ pub returns-clause-backs : goal.returns-clause-backs
 returns-clause-backs g c f = conns_backs Writable due_write writable_ready writable_due c.args.link.0 (served c.args.site.now) c.args.clients.now.items c.remove.new.self.items c.conn_mut.result.now.held None g.N.Net.tells g.F.Files.tells (seen_as (g.F.Files.disk c.args.files.now) (g.F.Files.faults c.args.files.now) (g.F.Files.failed_read c.args.files.now)) (seen_as (g.F.Files.disk c.finish.new.files) (g.F.Files.faults c.finish.new.files) (g.F.Files.failed_read c.finish.new.files)) (g.N.Net.trace c.args.net.now) (g.N.Net.trace c.finish.new.net)
     (place_link c.args.link.0 c.args.clients.now.items c.in-Some.i c.conn_mut.result.now (place_as c.args.link.0 c.args.clients.now.items c.deref.result.now c.in-Some.i c.deref.ensures.value c.in-Some.ensures) (lent_at c.args.clients.now.items c.in-Some.i c.index_mut-client.result.now c.conn_mut.result.now c.conn_mut.ensures.value c.index_mut-client.ensures.value)) (place_kept c.args.link.0 c.args.clients.now.items c.in-Some.i c.conn_mut.result.now (place_as c.args.link.0 c.args.clients.now.items c.deref.result.now c.in-Some.i c.deref.ensures.value c.in-Some.ensures) (lent_at c.args.clients.now.items c.in-Some.i c.index_mut-client.result.now c.conn_mut.result.now c.conn_mut.ensures.value c.index_mut-client.ensures.value) c.requires.kept.rising)
     (place_removed c.args.link.0 c.args.clients.now.items c.in-Some.i c.conn_mut.result.now (place_as c.args.link.0 c.args.clients.now.items c.deref.result.now c.in-Some.i c.deref.ensures.value c.in-Some.ensures) (lent_at c.args.clients.now.items c.in-Some.i c.index_mut-client.result.now c.conn_mut.result.now c.conn_mut.ensures.value c.index_mut-client.ensures.value) c.requires.kept.rising c.write_for.new.conn c.remove.new.self.items c.remove.ensures.by_index.2) c.requires.backs
-    (stop_closed Stands (DueWrite (FailsFor c.conn_mut.result.now.held.link (seen_as (g.F.Files.disk c.args.files.now) (g.F.Files.faults c.args.files.now) (g.F.Files.failed_read c.args.files.now)) (seen_as (g.F.Files.disk c.finish.new.files) (g.F.Files.faults c.finish.new.files) (g.F.Files.failed_read c.finish.new.files)))) (served c.args.site.now) c.conn_mut.result.now.held c.write_for.new.conn.held c.in-Some-write_for.ending g.N.Net.tells g.F.Files.tells (g.F.Files.disk c.args.files.now) (g.F.Files.disk c.write_for.new.files) (g.F.Files.disk c.finish.new.files) (g.N.Net.trace c.args.net.now) (g.N.Net.trace c.write_for.new.net) (g.N.Net.trace c.finish.new.net)
+    (stop_closed Stands (DueWrite (NoReadFailed (seen_as (g.F.Files.disk c.args.files.now) (g.F.Files.faults c.args.files.now) (g.F.Files.failed_read c.args.files.now)) (seen_as (g.F.Files.disk c.finish.new.files) (g.F.Files.faults c.finish.new.files) (g.F.Files.failed_read c.finish.new.files))) (FailsFor c.conn_mut.result.now.held.link (seen_as (g.F.Files.disk c.args.files.now) (g.F.Files.faults c.args.files.now) (g.F.Files.failed_read c.args.files.now)) (seen_as (g.F.Files.disk c.finish.new.files) (g.F.Files.faults c.finish.new.files) (g.F.Files.failed_read c.finish.new.files)))) (served c.args.site.now) c.conn_mut.result.now.held c.write_for.new.conn.held c.in-Some-write_for.ending g.N.Net.tells g.F.Files.tells (g.F.Files.disk c.args.files.now) (g.F.Files.disk c.write_for.new.files) (g.F.Files.disk c.finish.new.files) (g.N.Net.trace c.args.net.now) (g.N.Net.trace c.write_for.new.net) (g.N.Net.trace c.finish.new.net)
     (c.in-Some-write_for.ensures.goes (seen_as (g.F.Files.disk c.finish.new.files) (g.F.Files.faults c.finish.new.files) (g.F.Files.failed_read c.finish.new.files)) c.finish.ensures.faults c.finish.ensures.failed_read)
     (λ t. close_told c.into_conn.result.held.link c.write_for.new.conn.held.link c.in-Some-write_for.ending (g.N.Net.trace c.write_for.new.net) (g.N.Net.trace c.finish.new.net) (ap (λ (k : Connected). k.held.link) (taken_is c.args.clients.now.items c.in-Some.i c.write_for.new.conn c.into_conn.result (place_below c.args.link.0 c.args.clients.now.items c.in-Some.i c.conn_mut.result.now (place_as c.args.link.0 c.args.clients.now.items c.deref.result.now c.in-Some.i c.deref.ensures.value c.in-Some.ensures) (lent_at c.args.clients.now.items c.in-Some.i c.index_mut-client.result.now c.conn_mut.result.now c.conn_mut.ensures.value c.index_mut-client.ensures.value)) (lent_at (set c.args.clients.now.items c.in-Some.i c.write_for.new.conn) c.in-Some.i c.remove.result c.into_conn.result c.into_conn.ensures c.remove.ensures.value))) (c.finish.ensures.trace t))
     (λ f. drops_at c.into_conn.result c.write_for.new.conn (g.F.Files.disk c.write_for.new.files) (g.F.Files.disk c.finish.new.files) (taken_is c.args.clients.now.items c.in-Some.i c.write_for.new.conn c.into_conn.result (place_below c.args.link.0 c.args.clients.now.items c.in-Some.i c.conn_mut.result.now (place_as c.args.link.0 c.args.clients.now.items c.deref.result.now c.in-Some.i c.deref.ensures.value c.in-Some.ensures) (lent_at c.args.clients.now.items c.in-Some.i c.index_mut-client.result.now c.conn_mut.result.now c.conn_mut.ensures.value c.index_mut-client.ensures.value)) (lent_at (set c.args.clients.now.items c.in-Some.i c.write_for.new.conn) c.in-Some.i c.remove.result c.into_conn.result c.into_conn.ensures c.remove.ensures.value)) (c.finish.ensures.drops f))) f
