@@ -1,7 +1,7 @@
 -- What deeds of one client, on top of a trace, make of each client's own list.
 use Rattle.std.proofs.Common.{◌≡◌, ◌≢◌, ℕ, List, [], ◌∷◌, ◌++◌, Bool, true, false, ◌&&◌, ◌==◌, if◌then◌else◌, refl, sym, ◌∙◌, ap, arith}
 use Rattle.std.proofs.lemmas.Bool.Decides.{nat_tests}
-use Rattle.lt_world.specs.Acts.{is_deed}
+use Rattle.lt_world.specs.Acts.{is_deed, deeds_of}
 use Rattle.lt_world.specs.Trace.{Act, Entry, own as link_acts, names}
 use Rattle.server_model.specs.Deeds.{Deed, Ours, own, ours, told, AreDeeds, deeds_in}
 
@@ -55,3 +55,15 @@ own_by act false false deeds acts is rest = rest
 pub own_is : (client : ℕ) (trace : List Entry) → own client trace ≡ deeds_in (link_acts client trace)
 own_is client [] = refl
 own_is client (entry ∷ trace) = own_by entry.act (is_deed entry.act) (entry.link == client) (own client trace) (link_acts client trace) refl (own_is client trace)
+
+ours_if : (d : Bool) (act : Act) (rest : List Deed) → ours (if d then Ours act ∷ rest else rest) ≡ (if d then act ∷ ours rest else ours rest)
+ours_if true act rest = refl
+ours_if false act rest = refl
+
+ours_in : (acts : List Act) → ours (deeds_in acts) ≡ deeds_of acts
+ours_in [] = refl
+ours_in (act ∷ acts) = ours_if (is_deed act) act (deeds_in acts) ∙ ap (λ l. if is_deed act then act ∷ l else l) (ours_in acts)
+
+-- as acts they are the deeds of its link
+pub ours_are : (client : ℕ) (trace : List Entry) → ours (own client trace) ≡ deeds_of (link_acts client trace)
+ours_are client trace = ap ours (own_is client trace) ∙ ours_in (link_acts client trace)

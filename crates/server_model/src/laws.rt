@@ -1,6 +1,6 @@
 //! The laws on the definitions: each function does nothing, and its clauses are theorems.
 ghost use Rattle.std.specs.Prelude.{◌≡◌, ◌≢◌, ◌⊎◌, ℕ, ◌+◌, ◌-◌, ◌^◌, ◌<◌, ◌≤◌, ◌||◌, List, [], ◌∷◌, ◌++◌, length, take, drop, codes, Bool, true, false, Some, None};
-ghost use Rattle.lt_world.specs.Acts.{ending_of};
+ghost use Rattle.lt_world.specs.Acts.{ending_of, deeds_of};
 ghost use Rattle.lt_world.specs.declared.files.FileCall.{FileCall};
 ghost use Rattle.lt_world.specs.declared.net.Address.{Address};
 ghost use Rattle.lt_world.specs.declared.net.Ending.{Ending};
@@ -53,6 +53,9 @@ pub fn runs_grow()
 /// A client's meaning depends on the acts of its own link alone.
 pub fn client_alone()
     ensures acts { (client : ℕ) (trace : List Entry) → own client trace ≡ deeds_in (link_acts client trace) }
+
+    // So how it ended and the bytes that it took are those which a report of the trace has on its line.
+    ensures deeds { (client : ℕ) (trace : List Entry) → ours (own client trace) ≡ deeds_of (link_acts client trace) }
     ensures gained { (client : ℕ) (deeds : List Deed) (trace : List Entry) → AreDeeds deeds → own client (told client deeds trace) ≡ deeds ++ own client trace }
     ensures others { (other client : ℕ) (deeds : List Deed) (trace : List Entry) → other ≢ client → own other (told client deeds trace) ≡ own other trace }
 {}
