@@ -3,16 +3,22 @@
 //! run it and measure from outside.
 #![tactic(auto)]
 
+ghost use Rattle.std.specs.Prelude.{◌<◌, ◌≤◌};
+
 use anyhow::{Result, bail};
 use lt_bytes::{Number, read_decimal};
-use lt_world::{Address, Ending, Event, Got, Link, Waits};
+use lt_world::{Address, Ending, Event, Got, Link, Net, Waits};
 use mio_net::MioNet;
 use std::env;
 
-const SIZE: usize = 4096;
+const SIZE: usize = 2048;
 
 /// Reads once, and sends back what came. Whether something did.
-fn answer<N: Waits>(net: &mut N, link: Link) -> bool {
+fn answer<N: Net>(net: &mut N, link: Link) -> bool
+    requires known { link.0 < N.links net.old }
+    requires calls { 2 ≤ N.calls net.old }
+    requires room { 4096 ≤ N.room net.old }
+{
     let mut buf = [0u8; SIZE];
     match net.read(link, &mut buf) {
         Got::Bytes(n) => {

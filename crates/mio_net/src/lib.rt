@@ -17,6 +17,3 @@ mod sockets;
 mod system;
 
 pub use net::MioNet;
-
-#[cfg(test)]
-mod tests;

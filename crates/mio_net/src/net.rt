@@ -11,8 +11,6 @@ use lt_world::{
 use std::alloc::AllocGlobal;
 use std::marker::Model;
 use std::net::Net as System;
-#[cfg(test)]
-use std::time::Duration;
 
 /// Links over the sockets of the system. Contracts see its counts alone: nothing is told of what comes and goes.
 #[derive(Drop)]
@@ -51,12 +49,6 @@ impl<R: System + Drop> MioNet<R> {
     /// The port at which it listens: the one that the system chose, where it was told to listen at port 0.
     pub fn port(&self) -> Option<u16> {
         self.sockets.port()
-    }
-
-    // Asks the system, and waits a moment at most.
-    #[cfg(test)]
-    pub fn look(&mut self) -> bool {
-        self.sockets.ask(Some(Duration::from_millis(20)))
     }
 }
 

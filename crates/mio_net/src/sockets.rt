@@ -68,11 +68,14 @@ impl<R: Net + Drop> Sockets<R> {
     pub fn listen(&mut self, at: Address) -> io::Result<()>
         ensures { self.new.places ≡ self.old.places }
     {
-        let poll = Poll::new(&self.rt)?;
         let mut listener = bind(&self.rt, at)?;
-        poll.registry()
-            .register(&mut listener, LISTENER, Interest::READABLE)?;
-        self.poll = Some(poll);
+        if self.poll.is_none() {
+            self.poll = Some(Poll::new(&self.rt)?);
+        }
+        if let Some(poll) = &self.poll {
+            poll.registry()
+                .register(&mut listener, LISTENER, Interest::READABLE)?;
+        }
         self.listener = Some(listener);
         self.ring.set(Mark::Arrival);
         Ok(())
@@ -80,13 +83,8 @@ impl<R: Net + Drop> Sockets<R> {
 
     /// The port of the listener.
     pub fn port(&self) -> Option<u16> {
-        match &self.listener {
-            Some(listener) => match listener.local_addr() {
-                Ok(addr) => Some(addr.port()),
-                Err(_) => None,
-            },
-            None => None,
-        }
+        let addr = self.listener.as_ref()?.local_addr().ok()?;
+        Some(addr.port())
     }
 
     /// Asks the system what is ready, and waits for it at most so long, or until something is. False where it cannot
@@ -125,9 +123,8 @@ impl<R: Net + Drop> Sockets<R> {
                 return Event::Idle;
             };
             self.left = self.left.saturating_sub(1);
-            match self.event_of(mark) {
-                Some(event) => return event,
-                None => {}
+            if let Some(event) = self.event_of(mark) {
+                return event;
             }
         }
         Event::Idle
