@@ -18,7 +18,7 @@ import time
 
 from measuring import Program
 
-REQUEST = b"x" * 32
+SIZE = 32
 REQUESTS = 120_000
 RUNS = 3
 MOST = 1.2
@@ -48,19 +48,22 @@ class Server:
 
 
 def ask(clients, rounds):
-    """Each client sends a request, and then each takes its answer, so many times."""
+    """Each client sends a request of its own, and then each takes its answer, so many times."""
+    requests = [b"%*d" % (SIZE, n) for n in range(len(clients))]
     for client in clients:
         client.setsockopt(socket.IPPROTO_TCP, socket.TCP_NODELAY, 1)
     for _ in range(rounds):
-        for client in clients:
-            client.send(REQUEST)
-        for client in clients:
-            left = len(REQUEST)
-            while left:
-                came = len(client.recv(left))
-                if not came:
-                    sys.exit("the server closed a connection")
-                left -= came
+        for client, request in zip(clients, requests):
+            client.send(request)
+        for client, request in zip(clients, requests):
+            answer = client.recv(SIZE)
+            while 0 < len(answer) < SIZE:
+                piece = client.recv(SIZE - len(answer))
+                if not piece:
+                    break
+                answer += piece
+            if answer != request:
+                sys.exit("a client did not get its own bytes")
 
 
 def measure(busy, idle):
