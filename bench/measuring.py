@@ -9,10 +9,11 @@ ROOT = os.path.dirname(os.path.dirname(os.path.abspath(__file__)))
 
 
 class Program:
-    """A program of this repository, by the name of its crate."""
+    """A program of this repository, or of another checkout of it, by the name of its crate."""
 
-    def __init__(self, name):
-        self.path = os.path.join(ROOT, "crates", name, "out", name)
+    def __init__(self, name, top=ROOT):
+        self.top = top
+        self.path = os.path.join(top, "crates", name, "out", name)
         if not os.path.exists(self.path):
             sys.exit("build the program first: see the head of this script")
 
@@ -30,13 +31,21 @@ class Program:
         """Seconds of processor time: the least of some runs."""
         return min(self.run(*words)[0] for _ in range(runs))
 
-    def instructions(self, *words):
-        """Instructions of one run, by callgrind."""
+    def told(self, tool, words):
+        """What a tool of valgrind says of one run."""
+        command = ["valgrind", *tool, self.path, *map(str, words)]
+        return subprocess.run(command, capture_output=True, text=True, check=True).stderr
+
+    def instructions(self, *words, within=None):
+        """Instructions of one run, by callgrind: all of them, or those within calls of the functions whose names match."""
         with tempfile.TemporaryDirectory() as folder:
-            told = subprocess.run(
-                ["valgrind", "--tool=callgrind", f"--callgrind-out-file={folder}/out", self.path, *map(str, words)],
-                capture_output=True,
-                text=True,
-                check=True,
-            )
-        return int(re.search(r"Collected : (\d+)", told.stderr).group(1))
+            tool = ["--tool=callgrind", f"--callgrind-out-file={folder}/out"]
+            if within is not None:
+                tool.append(f"--toggle-collect={within}")
+            told = self.told(tool, words)
+        return int(re.search(r"Collected : (\d+)", told).group(1))
+
+    def allocations(self, *words):
+        """Allocations of one run, by memcheck."""
+        told = self.told(["--tool=memcheck", "--leak-check=no"], words)
+        return int(re.search(r"total heap usage: ([\d,]+) allocs", told).group(1).replace(",", ""))

@@ -7,7 +7,8 @@ connections one after another with 100 each, and as 250 connections that are ope
 time of a request. Then 256 connections that are open at once end, the oldest first or the newest first: the time of a
 connection. The time of a script with no clients is taken off. Then bodies of 1 MiB are read, of a stated length and
 in chunks of 100 and of 4,096 bytes, and some of 64 KiB in chunks of 1: the time and the instructions of a byte of content.
-The time of the same script is taken off in which the client never arrives.
+The time of the same script is taken off in which the client never arrives. Then a browser's request, and a byte of a head
+of 8,192 bytes that comes byte by byte: the instructions of the server's turns alone, without script and report.
 
 Build first: cd crates/lighttpd && rt run -- replay -f ../../examples/hello.conf ../../examples/hello.script
 """
@@ -31,6 +32,17 @@ OPEN = 256
 # The bytes of a chunk, and those of the body's content.
 BODIES = [(None, SIZE), (1, SIZE >> 4), (100, SIZE), (PIECE, SIZE)]
 POSTS = 8
+# What a browser sends, twelve fields and 350 bytes.
+BROWSER = (
+    "GET /index.html HTTP/1.1\\r\\nHost: www.example.org\\r\\nUser-Agent: Mozilla/5.0 (X11; Linux x86_64)\\r\\n"
+    "Accept: text/html,*/*;q=0.8\\r\\nAccept-Language: en\\r\\nAccept-Encoding: gzip, deflate\\r\\nConnection: keep-alive\\r\\n"
+    "Upgrade-Insecure-Requests: 1\\r\\nSec-Fetch-Dest: document\\r\\nSec-Fetch-Mode: navigate\\r\\nSec-Fetch-Site: none\\r\\n"
+    "Cache-Control: max-age=0\\r\\nCookie: a=1; b=2\\r\\n\\r\\n"
+)
+# A head of the greatest length isn't whole before its last byte.
+SLOW_BYTES = 8_191
+# The function that serves an event, among the program's symbols.
+TURN = "*server_core*turn*"
 # A body is read much faster than its script, so its time takes many runs to find.
 REPLAYS_OF_BODIES = 16
 
@@ -85,6 +97,19 @@ def posted(chunk, size, arrives, posts=POSTS):
     return "\n".join(lines) + "\n"
 
 
+def browsed(requests):
+    """A browser's requests on one connection, one behind the other, each answered by a head and a file of five bytes."""
+    lines = ["lighttpd-script 1", 'file "/srv/index.html" 0 "hello"', "accept 10.0.0.5:40000 127.0.0.1:80"]
+    lines += [f'data c0 "{BROWSER}"', f"take c0 {PIECE} 1", f"take c0 {PIECE} 1"] * requests
+    return "\n".join(lines) + "\n"
+
+
+def slow(size):
+    """A head of one line that comes byte by byte, and isn't whole."""
+    lines = ["lighttpd-script 1", "accept 10.0.0.5:40000 127.0.0.1:80"] + ['data c0 "a"'] * size
+    return "\n".join(lines) + "\n"
+
+
 class Replays:
     """The built server, with a configuration and a script in a folder."""
 
@@ -112,8 +137,8 @@ class Replays:
         seconds, memory = self.runs(text, times)
         return min(seconds), memory
 
-    def instructions(self, text):
-        return self.server.instructions(*self.words(text))
+    def instructions(self, text, within=None):
+        return self.server.instructions(*self.words(text), within=within)
 
 
 def time_writes(replays, empty, base):
@@ -176,6 +201,13 @@ def time_bodies(replays):
     return chunked
 
 
+def count_requests(replays):
+    """The instructions of a browser's request, and of a byte of a slow head, within the server's turns."""
+    for name, text, few, many in [("a browser's request", browsed, 10, 110), ("a byte of a slow head", slow, 1, SLOW_BYTES)]:
+        done = [replays.instructions(text(n), within=TURN) for n in (few, many)]
+        print(f"{name}: {(done[1] - done[0]) / (many - few):.0f} instructions")
+
+
 def main():
     with tempfile.TemporaryDirectory() as folder:
         replays = Replays(folder)
@@ -185,6 +217,7 @@ def main():
         ratio = time_requests(replays, empty)
         endings = time_endings(replays, empty)
         chunked = time_bodies(replays)
+        count_requests(replays)
     if growth >= 1.5:
         sys.exit("a write takes half as long again with many clients")
     if ratio >= 1.5:

@@ -1,12 +1,18 @@
-//! A benchmark: reads the head of a browser's request and makes the normal form of a path of 1,000
-//! bytes, each so many times as an argument says, and prints a sum of what came out.
+//! A benchmark: reads the head of a browser's request, makes the normal form of a path of 1,000 bytes, and looks for the end of
+//! a head that comes byte by byte, each so many times as an argument says, and prints a sum of what came out.
 //! `bench/heads.py` runs it and measures from outside.
 #![tactic(auto)]
 
+ghost use Rattle.std.specs.Prelude.{length};
+ghost use Rattle.buffer_pool.specs.Kept.{HeldWithin};
+
 use anyhow::{Result, bail};
-use http_head::read_head;
+use chunkqueue::Store;
+use connection::{Conn, Stage};
+use http_head::{HEAD_LIMIT, read_head};
 use http_target::normal;
 use lt_bytes::{NoMemory, Number, Text, read_decimal};
+use lt_world::{Address, Link};
 use std::alloc::Global;
 use std::env;
 
@@ -59,13 +65,53 @@ fn make_normal_forms(alloc: Global, count: u64, path: &[u8]) -> u64 {
     sum
 }
 
+const PLACE: Address = Address {
+    ip: [127, 0, 0, 1],
+    port: 80,
+};
+
+/// A byte comes and is looked at. Counts where more bytes are waited for.
+fn comes(conn: &mut Conn, store: &mut Store, byte: u8) -> u64
+    requires { HeldWithin store.old (length conn.old.numbers) }
+    ensures { HeldWithin store.new (length conn.new.numbers) }
+{
+    if conn.room() == 0 || conn.got(store, &[byte]).is_err() {
+        return 0;
+    }
+    match conn.advance(store) {
+        Ok(Stage::Waiting) => 1,
+        _ => 0,
+    }
+}
+
+/// A head of one line comes byte by byte, up to the byte before the greatest length. Counts the bytes.
+fn look_at_slow_head(alloc: Global) -> u64 {
+    let mut store = Store::new(alloc);
+    let mut conn = Conn::new(alloc, Link(0), PLACE, PLACE);
+    let mut sum: u64 = 0;
+    for _ in 1..HEAD_LIMIT {
+        sum = sum.wrapping_add(comes(&mut conn, &mut store, b'a'));
+    }
+    conn.close(&mut store);
+    store.close();
+    sum
+}
+
+fn look_at_slow_heads(alloc: Global, count: u64) -> u64 {
+    let mut sum: u64 = 0;
+    for _ in 0..count {
+        sum = sum.wrapping_add(look_at_slow_head(alloc));
+    }
+    sum
+}
+
 fn count(word: Option<String>) -> Result<u64> {
     match word {
         Some(word) => match read_decimal(word.as_bytes()) {
             Number::Value(n) => Ok(n),
             Number::NotANumber | Number::Overflow => bail!("{word} is no number"),
         },
-        None => bail!("usage: bench_heads HEADS PATHS"),
+        None => bail!("usage: bench_heads HEADS PATHS SLOW"),
     }
 }
 
@@ -74,12 +120,12 @@ fn main(rt: HostRuntime) -> Result<()> {
     let _program = words.next();
     let heads = count(words.next())?;
     let paths = count(words.next())?;
+    let slow = count(words.next())?;
     let path = path(rt.alloc())?;
-    let sum = read_heads(rt.alloc(), heads).wrapping_add(make_normal_forms(
-        rt.alloc(),
-        paths,
-        path.bytes(),
-    ));
+    let read = read_heads(rt.alloc(), heads);
+    let made = make_normal_forms(rt.alloc(), paths, path.bytes());
+    let looked = look_at_slow_heads(rt.alloc(), slow);
+    let sum = read.wrapping_add(made).wrapping_add(looked);
     println!(rt; "{sum}")?;
     Ok(())
 }
