@@ -1,2 +1,4 @@
 pub mod HeadLemmas
+pub mod PairLemmas
 pub mod ParamLemmas
+pub mod SectionLemmas

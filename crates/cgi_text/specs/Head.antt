@@ -1,10 +1,10 @@
 -- The head of a gateway's answer, as a function of its bytes (RFC 3875, section 6; its field lines as in RFC 9112,
 -- section 5).
-use Rattle.std.specs.Prelude.{◌≡◌, ◌⊎◌, ℕ, suc, ◌&&◌, nat_le, nat_lt, List, [], ◌∷◌, map, take, codes, Option, Some, None, Result, Ok, Err, if◌then◌else◌}
+use Rattle.std.specs.Prelude.{◌≡◌, ◌≤◌, ◌⊎◌, ℕ, suc, length, ◌&&◌, nat_le, nat_lt, List, [], ◌∷◌, map, take, codes, Option, Some, None, Result, Ok, Err, if◌then◌else◌}
 use Rattle.lt_bytes.specs.Numbers.{number_of}
 use Rattle.lt_bytes.specs.declared.numbers.Number.{Number}
 use Rattle.lt_bytes.specs.declared.numbers.Number.TheVariants.{Value, NotANumber, Overflow}
-use Rattle.httparse.specs.Grammar.{Field}
+use Rattle.httparse.specs.Grammar.{Field, LineEnd, ReadsSection}
 use Rattle.httparse.specs.Spans.{name_and_value}
 use Rattle.http_header.specs.FieldValue.{FieldValue}
 use Rattle.http_header.specs.HeaderMap.{Entries, get_all}
@@ -75,3 +75,12 @@ cgi_head bytes = head_at bytes (section_end bytes)
 abbrev pub Says : Result CgiHead CgiRefusal → Result CgiHead CgiRefusal → Type 0
 Says due (Ok head) = due ≡ Ok head
 Says due (Err refusal) = (refusal ≡ NoMemory) ⊎ (due ≡ Err refusal)
+
+-- the bytes are a section of the grammar and what follows it, and the head is what its fields say
+pub record IsHeadOf (bytes : List ℕ) (head : CgiHead) : Type 0 where
+  pub fields : List Field
+  pub last : LineEnd
+  pub rest : List ℕ
+  pub reads : ReadsSection bytes fields last rest
+  pub few : length fields ≤ FIELD_LINE_LIMIT
+  pub says : head_by head.length (fields_of fields) ≡ Ok head

@@ -1,9 +1,14 @@
 -- Name-value pairs (FastCGI Specification 1.0, section 3.4): how they are written, and how they are read.
-use Rattle.std.specs.Prelude.{ℕ, zero, suc, ◌+◌, ◌-◌, ◌*◌, ◌/◌, ◌%◌, nat_le, nat_lt, List, [], ◌∷◌, ◌++◌, length, take, drop, flat_map, Option, Some, None, option_map, if◌then◌else◌}
+use Rattle.std.specs.Prelude.{ℕ, zero, suc, ◌+◌, ◌-◌, ◌*◌, ◌/◌, ◌%◌, ◌^◌, ◌<◌, nat_le, nat_lt, List, [], ◌∷◌, ◌++◌, length, take, drop, flat_map, Option, Some, None, option_map, if◌then◌else◌}
 
 -- names and values, in order
 abbrev pub PairList : Type 0
 PairList = List (List ℕ × List ℕ)
+
+-- the form has room for the lengths
+pub record IsShort (p : List ℕ × List ℕ) : Type 0 where
+  pub name : length p.0 < 2 ^ 31
+  pub value : length p.1 < 2 ^ 31
 
 -- a length up to 127 is one byte; a greater one is four, the greatest first, of which the top bit is set: the form has
 -- room for lengths below 2^31

@@ -10,6 +10,7 @@
 
 mod address;
 mod head;
+pub mod laws;
 mod pairs;
 mod passed;
 mod request;
@@ -24,3 +25,8 @@ pub use passed::{passed_fields, stated_length};
 pub use request::GateRequest;
 pub use state::GateState;
 pub use variables::params;
+
+#[cfg(test)]
+mod head_tests;
+#[cfg(test)]
+mod tests;
