@@ -3,7 +3,7 @@ ghost use Rattle.std.specs.Prelude.{◌≡◌, ◌≤◌, ◌++◌, ℕ, List, l
 ghost use Rattle.httparse.specs.Grammar.{RequestHead, ReadsRequest, print_request};
 ghost use Rattle.http_header.specs.HeaderMap.{get_all, keys};
 ghost use Rattle.http_head.specs.declared.ends.HeadEnd.TheVariants.{At, TooLarge};
-ghost use Rattle.http_head.specs.declared.limits.TheConstants.{HEAD_LIMIT};
+ghost use Rattle.http_head.specs.declared.limits.TheConstants.{HEAD_LIMIT, FIELD_LINE_LIMIT};
 ghost use Rattle.http_head.specs.declared.head.Request.{Request};
 ghost use Rattle.http_head.specs.Lines.{end_of, field_lines};
 ghost use Rattle.http_head.specs.Ends.{head_end};
@@ -11,6 +11,12 @@ ghost use Rattle.http_head.specs.Read.{read_request};
 ghost use Rattle.http_head.specs.Fields.{Pair, map_of, names_of, values_of, pairs_of, IsTaken};
 ghost use Rattle.http_head.specs.Framing.{IsFramed};
 ghost use Rattle.http_head.specs.Head.{head_of};
+
+/// A head has at most 8,192 bytes and 64 field lines.
+pub fn the_limits_are_numbers()
+    ensures head { HEAD_LIMIT ≡ 8192 }
+    ensures lines { FIELD_LINE_LIMIT ≡ 64 }
+{}
 
 /// The function over the bytes reads just the head that the grammar reads.
 pub fn the_grammar_is_read()
