@@ -38,14 +38,18 @@ IsLinkEvent answer = kind_of answer ≡ kind.Event
 abbrev pub IsAnswer : Event → Type 0
 IsAnswer answer = (kind_of answer ≡ kind.Event) ⊎ (kind_of answer ≡ kind.Idle)
 
+-- it may stay what it is
 pub Becomes-same : (net : Counts) → Becomes net net
 Becomes-same net = record { faults = le_refl net.faults; wait_faults = refl; links = le_refl net.links; memory = λ is. is; over = λ is. is }
 
+-- what may become of it later may become of it
 pub Becomes-more : (a b c : Counts) → Becomes a b → Becomes b c → Becomes a c
 Becomes-more a b c ab bc = record { faults = le_trans ab.faults bc.faults; wait_faults = bc.wait_faults ∙ ab.wait_faults; links = le_trans ab.links bc.links; memory = λ is. ab.memory (bc.memory is); over = λ is. ab.over (bc.over is) }
 
+-- what may become of it without waiting may become of it
 pub Becomes-since : (a b : Counts) → Becomes a b → Since a b
 Becomes-since a b becomes = record { faults = becomes.faults; wait_faults = subst (λ (n : ℕ). a.wait_faults ≤ n) (sym becomes.wait_faults) (le_refl a.wait_faults) }
 
+-- so too by waiting, step by step
 pub Since-more : (a b c : Counts) → Since a b → Since b c → Since a c
 Since-more a b c ab bc = record { faults = le_trans ab.faults bc.faults; wait_faults = le_trans ab.wait_faults bc.wait_faults }
