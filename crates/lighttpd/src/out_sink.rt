@@ -20,7 +20,8 @@ impl<'a, R: Print> OutSink<Printer<'a, R>> {
 }
 
 impl<W: Write> Sink for OutSink<W> {
-    ghost use Rattle.std.specs.Prelude.{[], IsSome, unwrap_or};
+    ghost use Rattle.std.specs.Prelude.{◌≤◌, [], IsSome, unwrap_or};
+    ghost use Rattle.std.proofs.Common.{le_refl, le_trans};
 
     // What a writer is known to hold is what the sink took. Of standard output nothing is known.
     ghost tells = { (out : W) → IsSome (W.contents out) };
@@ -29,13 +30,14 @@ impl<W: Write> Sink for OutSink<W> {
 
     ghost faults = { λ sink. sink.faults };
 
+    // What is later has failed as often or more.
     ghost later = { λ a b. a.faults ≤ b.faults };
 
-    ghost later_same = { λ sink. le_refl sink.faults };
+    ghost later_same = { λ a. le_refl a.faults };
 
-    ghost later_later = { λ a b c ab bc. le_trans ab bc };
+    ghost later_later = { λ _ _ _ ab bc. le_trans ab bc };
 
-    ghost later_faults = { λ a b later. later };
+    ghost later_faults = { λ _ _ later. later };
 
     fn write(&mut self, piece: &[u8]) -> Result<usize, Fault> {
         match self.out.write(piece) {

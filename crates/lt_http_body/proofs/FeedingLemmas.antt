@@ -35,7 +35,7 @@ memory_drop (suc n) [] h = tt
 memory_drop (suc n) (Byte b ∷ items) h = memory_drop n items h
 memory_drop (suc n) (FileByte file place ∷ items) h = absurd h
 
-front_drop : (n : ℕ) (items : List Item) → AllInMemory items → memory_front (drop n items) ≡ drop n (memory_front items)
+pub front_drop : (n : ℕ) (items : List Item) → AllInMemory items → memory_front (drop n items) ≡ drop n (memory_front items)
 front_drop zero items h = refl
 front_drop (suc n) [] h = refl
 front_drop (suc n) (Byte b ∷ items) h = front_drop n items h
@@ -52,17 +52,17 @@ bytes_count [] h = refl
 bytes_count (Byte b ∷ items) h = ap suc (bytes_count items h)
 bytes_count (FileByte file place ∷ items) h = absurd h
 
-take_items : (n : ℕ) (items : List Item) → AllInMemory items → take n items ≡ map Byte (take n (memory_front items))
+pub take_items : (n : ℕ) (items : List Item) → AllInMemory items → take n items ≡ map Byte (take n (memory_front items))
 take_items n items h = ap (take n) (items_are items h) ∙ take-map Byte n (memory_front items)
 
 -- the bytes that can leave are the first ones
-front_is : (items : List Item) (staged front : List ℕ) → AllInMemory items → 0 < length items → Leads items staged front → front ≡ take (length front) (memory_front items)
+pub front_is : (items : List Item) (staged front : List ℕ) → AllInMemory items → 0 < length items → Leads items staged front → front ≡ take (length front) (memory_front items)
 front_is [] staged front h some leads = absurd (omega arith)
 front_is (FileByte file place ∷ items) staged front h some leads = absurd h
 front_is (Byte b ∷ items) staged front h some leads =
     sym (front_of_bytes front) ∙ ap memory_front leads.1 ∙ front_take (length front) (Byte b ∷ items) h
 
-take_of_front : (n : ℕ) (front bytes : List ℕ) → n ≤ length front → front ≡ take (length front) bytes → take n front ≡ take n bytes
+pub take_of_front : (n : ℕ) (front bytes : List ℕ) → n ≤ length front → front ≡ take (length front) bytes → take n front ≡ take n bytes
 take_of_front n front bytes within is =
     let k : ℕ = length front in
     let whole : front ++ drop k bytes ≡ bytes = ap (λ (l : List ℕ). l ++ drop k bytes) is ∙ take-append-drop k bytes in
@@ -183,7 +183,7 @@ ended old new input body input' body' t r =
 pub ended_over : (old new : Standing) (input body input' body' : Contents) → Takes old input body new input' body' → is_over new.state ≡ true → Ended old input body new input' body'
 ended_over old new input body input' body' t over = ended old new input body input' body' t (rests new.room new.state (bytes_of input') over)
 
-none_left : (items : List Item) → length items ≡ 0 → memory_front items ≡ []
+pub none_left : (items : List Item) → length items ≡ 0 → memory_front items ≡ []
 none_left [] h = refl
 none_left (item ∷ items) h = absurd (omega arith)
 

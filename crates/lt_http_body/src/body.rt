@@ -94,7 +94,8 @@ impl Body {
         self.standing.is_over()
     }
 
-    fn answer(&self) -> Result<BodyState, BodyRefusal>
+    /// What is answered of the bytes that came.
+    pub fn answer(&self) -> Result<BodyState, BodyRefusal>
         ensures { result ≡ answer_from self.now.state }
     {
         self.standing.answer()

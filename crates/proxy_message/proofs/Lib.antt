@@ -1,0 +1,7 @@
+pub mod ReadingLemmas
+pub mod FeedingLemmas
+mod EndLemmas
+mod HeadedLemmas
+mod ContentLemmas
+pub mod ResponseLemmas
+mod JudgedLemmas

@@ -1,0 +1,5 @@
+pub mod Feeding
+pub mod Progress
+pub mod Reading
+pub mod Responses
+pub mod Stages
