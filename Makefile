@@ -1,14 +1,19 @@
 # With no target: what there is.
-.PHONY: help demo test
+.PHONY: help demo prove minutes
 
 help:
-	@echo 'make demo   build the server, replay examples/hello.script and print its report'
-	@echo 'make test   prove every crate and run every test (rt ci)'
-	@echo
-	@echo 'lighttpd replay -f CONF SCRIPT   is run by: cd crates/lighttpd && rt run -- replay -f CONF SCRIPT'
+	@echo 'make demo      compile the server without proving it, replay examples/hello.script, print its report'
+	@echo 'make prove     prove every crate, try the must-fail edits, run the tests and the programs (rt ci)'
+	@echo 'make minutes   the processor minutes of the last such run, a crate each'
 
+# `rt try` runs in a folder of its own, which gets the two files.
 demo:
-	cd crates/lighttpd && rt run -- replay -f ../../examples/hello.conf ../../examples/hello.script
+	@echo 'compiled and run without proving it (make prove proves it):'
+	@cd crates/lighttpd && rt try --data hello.conf=../../examples/hello.conf --data hello.script=../../examples/hello.script \
+		-- replay -f hello.conf hello.script
 
-test:
-	rt ci
+prove:
+	@python3 bench/minutes.py record
+
+minutes:
+	@python3 bench/minutes.py

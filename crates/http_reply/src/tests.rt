@@ -1,3 +1,4 @@
+//! Heads and error replies, spelled as the standard has them.
 ghost use Rattle.std.specs.Prelude.{IsTrue};
 
 use crate::{Fields, Spelling, error_reply, laws, phrase, reply_head};

@@ -12,8 +12,8 @@ ghost use Rattle.lighttpd.specs.Serving.{Ran};
 
 use crate::offline::offline;
 use crate::status::Status;
-use script_net::ScriptNet;
 use lt_world::{MemFiles, Sink, Texts};
+use script_net::ScriptNet;
 use std::alloc::Global;
 
 /// Does what the words ask for, over named texts and a sink, and answers how it ended.

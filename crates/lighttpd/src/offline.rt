@@ -32,8 +32,8 @@ use crate::run::{Finish, run};
 use crate::status::Status;
 use crate::words::{Call, read_words};
 use conf_parse::print;
-use script_net::{ScriptNet, report, write_all};
 use lt_world::{MemFiles, Sink, Texts};
+use script_net::{ScriptNet, report, write_all};
 use server_core::Server;
 use std::alloc::Global;
 

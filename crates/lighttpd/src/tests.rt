@@ -2,8 +2,8 @@
 use crate::offline::offline;
 use crate::status::{ConfFault, ConfKind, Status};
 use lt_bytes::Text;
-use script_net::ScriptNet;
 use lt_world::{MemFiles, MemSink, MemTexts};
+use script_net::ScriptNet;
 use std::alloc::Global;
 use std::process::Abort;
 use std::test::Fail;

@@ -37,7 +37,6 @@ const REQUEST: &[u8; 32] = b"GET /a.txt HTTP/1.1\r\nHost: x\r\n\r\n";
 
 impl Net for Failing {
     ghost use Rattle.std.specs.Prelude.{[], min};
-
     ghost use Rattle.std.specs.Prelude.{◌≤◌};
     ghost use Rattle.std.proofs.Common.{refl, le_refl, le_trans};
 

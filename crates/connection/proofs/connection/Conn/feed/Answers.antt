@@ -54,7 +54,7 @@ pub returns-clause-filled : goal.returns-clause-filled
 returns-clause-filled c =
     let few : count_of c.self.inside.body < 2 ^ 62 - 65536 = omega (arith, c.if-len-ge-CONTENT_LIMIT.false, c.len.ensures.count) in
     let q = fed_queues c.in-Taking.body c.feed-answer.new.self c.self.inside.input c.self.inside.body c.feed-answer.new.input c.feed-answer.new.body c.feed-answer.ensures.takes c.self.invariant.memory c.self.invariant.within c.self.invariant.content
-        (omega (arith, few)) in
+    (omega (arith, few)) in
     fills_less c.args.store.now.filled c.feed-answer.new.store.filled c.args.self.now.held.input c.self.inside.input c.feed-answer.new.input (ap (λ (x : Connected). x.held.input) c.self.view_is) c.self.invariant.memory q.memory
     c.feed-answer.ensures.filled
 
