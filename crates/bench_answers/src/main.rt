@@ -29,8 +29,8 @@ fn digit(n: usize) -> u8 {
 
 /// The next read of chunks with so much data each, in which the next byte has this place in its chunk.
 fn read_from(size: usize, place: usize) -> [u8; BUFFER_SIZE]
-    requires { size < 65536 }
-    requires { place < 65545 }
+    requires size { size < 65536 }
+    requires place { place < 65545 }
 {
     let before = [
         digit(size / 65_536),

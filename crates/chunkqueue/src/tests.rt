@@ -18,7 +18,8 @@ pub(crate) struct Letters {
 }
 
 impl Files for Letters {
-    ghost use Rattle.std.specs.Prelude.{None, []};
+    ghost use Rattle.std.specs.Prelude.{◌≤◌, None, []};
+    ghost use Rattle.std.proofs.Common.{le_refl, le_trans};
     ghost use Rattle.lt_world.specs.Disk.{Missing};
 
     ghost tells = { ⊥ };
@@ -29,11 +30,13 @@ impl Files for Letters {
 
     ghost failed_read = { λ _. None };
 
-    ghost later = { λ _ _. Unit {0} };
+    ghost later = { λ a b. a.faults ≤ b.faults };
 
-    ghost later_same = { λ _. tt };
+    ghost later_same = { λ files. le_refl files.faults };
 
-    ghost later_later = { λ _ _ _ _ _. tt };
+    ghost later_later = { λ a b c ab bc. le_trans ab bc };
+
+    ghost later_faults = { λ a b later. later };
 
     fn find(&mut self, _owner: Owner, _path: &[u8]) -> Found {
         Found::Missing

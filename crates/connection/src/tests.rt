@@ -23,6 +23,7 @@ struct Same;
 
 impl Files for Same {
     ghost use Rattle.std.specs.Prelude.{None, []};
+    ghost use Rattle.std.proofs.Common.{le_refl};
     ghost use Rattle.lt_world.specs.Disk.{Missing};
 
     ghost tells = { ⊥ };
@@ -38,6 +39,8 @@ impl Files for Same {
     ghost later_same = { λ _. tt };
 
     ghost later_later = { λ _ _ _ _ _. tt };
+
+    ghost later_faults = { λ _ _ _. le_refl 0 };
 
     fn find(&mut self, _owner: Owner, _path: &[u8]) -> Found {
         Found::Missing
