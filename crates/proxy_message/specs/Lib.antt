@@ -1,3 +1,4 @@
+pub mod Asking
 pub mod Feeding
 pub mod Progress
 pub mod Reading

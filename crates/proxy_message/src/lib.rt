@@ -7,6 +7,7 @@
 #![tactic(auto)]
 
 mod answer;
+mod asking;
 mod content;
 mod heads;
 pub mod laws;
@@ -16,5 +17,6 @@ mod refusal;
 mod stage;
 
 pub use answer::AnswerReader;
+pub use asking::ask;
 pub use limits::BODY_LIMIT;
 pub use refusal::{AnswerRefusal, AnswerState};
