@@ -1,10 +1,10 @@
 -- The first bytes of a head that has ended, up to its end, have ended there, and fewer have not.
-use Rattle.std.proofs.Common.{◌≡◌, ◌≢◌, ℕ, zero, suc, ◌+◌, ◌-◌, ◌<◌, ◌≤◌, Bool, true, false, cond, ◌&&◌, eqb, ltb, leb, List, [], ◌∷◌, ◌++◌, length, take, drop, Option, Some, None, ◌⊎◌, sym, refl, ap, ◌∙◌, arith, subst, inl, inr, length-take, length-append}
+use Rattle.std.proofs.Common.{◌≡◌, ℕ, zero, suc, ◌+◌, ◌-◌, ◌<◌, ◌≤◌, Bool, true, false, cond, ◌&&◌, eqb, ltb, leb, List, [], ◌∷◌, ◌++◌, length, take, drop, Option, Some, None, ◌⊎◌, sym, refl, ap, ◌∙◌, arith, subst, inl, inr, length-take}
 use Rattle.std.proofs.lemmas.List.{take-take, take_all, take-append-le, take-append-drop}
 use Rattle.std.specs.Prelude.{option_map}
 use Rattle.std.proofs.lemmas.Bool.{cases_Bool, cases_lt, ltb-true, ltb-false, leb-true, leb-false}
 use Rattle.http_head.specs.Lines.{after_return, empty_line, after_blank, length_to_end, end_of}
-use Rattle.http_head.specs.Ends.{head_end_at, head_end_in, head_end}
+use Rattle.http_head.specs.Ends.{head_end_at, head_end_in}
 use Rattle.http_head.specs.declared.ends.HeadEnd.{HeadEnd}
 use Rattle.http_head.specs.declared.ends.HeadEnd.TheVariants.{At, NotYet, TooLarge}
 use Rattle.http_head.proofs.EndLemmas.{at_stays, too_large_stays}

@@ -1,9 +1,9 @@
 -- What a call makes of an answer and its queues.
-use Rattle.std.proofs.Common.{Result, Ok, Err, ◌≡◌, zero, suc, ℕ, ◌+◌, ◌-◌, ◌<◌, ◌≤◌, true, false, List, [], ◌∷◌, ◌++◌, length, map, take, drop, refl, ap, sym, ◌∙◌, subst, append_assoc, append-nil, length-append, length-take, length-drop, arith}
-use Rattle.std.proofs.lemmas.List.{drop-drop, take-append-drop, take-append-le, length-map, map-append}
+use Rattle.std.proofs.Common.{Result, Ok, Err, ◌≡◌, ℕ, ◌+◌, ◌-◌, ◌<◌, ◌≤◌, true, List, [], ◌++◌, length, map, take, drop, refl, ap, sym, ◌∙◌, subst, append_assoc, append-nil, length-append, length-take, length-drop, arith}
+use Rattle.std.proofs.lemmas.List.{drop-drop, take-append-drop, length-map, map-append}
 use Rattle.chunkqueue.specs.Items.{Item, Byte, Contents, items_of, count_of, memory_front, Leads}
 use Rattle.lt_http_body.specs.Feeding.{AllInMemory, bytes_of}
-use Rattle.lt_http_body.proofs.FeedingLemmas.{memory_drop, bytes_count, front_drop, take_items, front_is, take_of_front, none_left}
+use Rattle.lt_http_body.proofs.FeedingLemmas.{memory_drop, bytes_count, front_drop, front_is, take_of_front, none_left}
 use Rattle.proxy_message.specs.declared.progress.Progress.{Progress}
 use Rattle.proxy_message.specs.declared.refusal.AnswerState.{AnswerState}
 use Rattle.proxy_message.specs.declared.refusal.AnswerRefusal.{AnswerRefusal}

@@ -1,5 +1,5 @@
 -- The first bytes of a head, taken in one piece.
-use Rattle.std.proofs.Common.{◌≡◌, ℕ, zero, suc, ◌+◌, ◌-◌, ◌<◌, ◌≤◌, Bool, true, false, cond, ltb, List, [], ◌∷◌, ◌++◌, length, take, drop, Option, Some, None, refl, sym, ap, ◌∙◌, subst, arith, length-take, length-append, append_assoc}
+use Rattle.std.proofs.Common.{◌≡◌, ℕ, suc, ◌+◌, ◌-◌, ◌<◌, ◌≤◌, Bool, true, false, cond, ltb, List, [], ◌∷◌, ◌++◌, length, take, drop, Option, Some, None, refl, sym, ap, ◌∙◌, subst, arith, length-take, length-append, append_assoc}
 use Rattle.std.proofs.lemmas.List.{take-take, take_all, take-append-drop}
 use Rattle.std.proofs.Math.Seq.{take-append-add}
 use Rattle.std.specs.Prelude.{codes}
@@ -18,11 +18,11 @@ use Rattle.proxy_message.specs.declared.stage.Stage.{Stage}
 use Rattle.proxy_message.specs.declared.stage.Stage.TheVariants as stage
 use Rattle.proxy_message.specs.declared.limits.TheConstants.{BODY_LIMIT}
 use Rattle.proxy_message.specs.Responses.{read_response}
-use Rattle.proxy_message.specs.Stages.{is_interim, is_final, has_no_body, of_length, stated_by, coded_by, by_lengths, by_codings, content_of}
+use Rattle.proxy_message.specs.Stages.{is_interim, is_final, has_no_body, of_length, stated_by, by_lengths, by_codings, content_of}
 use Rattle.proxy_message.specs.Progress.{before, begin, behind_head, head_of, by_status, by_response, judged, headed_by, headed, step}
 use Rattle.proxy_message.specs.Reading.{progress_after, content_in, taken_in, Passes}
 use Rattle.proxy_message.specs.Feeding.{IsSoundStage, IsHeaded}
-use Rattle.proxy_message.proofs.EndLemmas.{not_yet_short, IsAt, is_at, goes_before, goes_to_end, goes_to_limit, ends_behind}
+use Rattle.proxy_message.proofs.EndLemmas.{not_yet_short, is_at, goes_before, goes_to_end, goes_to_limit, ends_behind}
 
 -- ---- behind a whole head no bytes of a head are held, or none came of the next
 

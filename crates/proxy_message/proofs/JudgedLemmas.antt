@@ -1,5 +1,5 @@
 -- From what the code finds in a head to what the head makes of an answer.
-use Rattle.std.proofs.Common.{◌≡◌, ℕ, ◌≤◌, ◌<◌, Bool, true, false, cond, ltb, List, map, length, take, drop, All, Option, Some, None, sym, refl, ap, ◌∙◌, subst, arith, length-take}
+use Rattle.std.proofs.Common.{◌≡◌, ℕ, ◌≤◌, ◌<◌, Bool, cond, List, map, length, take, drop, All, Option, Some, None, sym, refl, ap, ◌∙◌, subst, arith, length-take}
 use Rattle.std.proofs.lemmas.Bool.{lt-ltb, le-ltb}
 use Rattle.std.proofs.lemmas.List.{length-map}
 use Rattle.httparse.specs.declared.spans.HeaderSpan.{HeaderSpan}
@@ -11,7 +11,6 @@ use Rattle.http_header.specs.HeaderMap.{Entries}
 use Rattle.http_head.specs.Fields.{map_of}
 use Rattle.http_head.proofs.TakenLemmas.{values_pass, parts_pass}
 use Rattle.cgi_text.specs.Head.{fields_of}
-use Rattle.proxy_message.specs.declared.progress.Progress.{Progress}
 use Rattle.proxy_message.specs.declared.stage.Stage.TheVariants as stage
 use Rattle.proxy_message.specs.Responses.{read_response}
 use Rattle.proxy_message.specs.Progress.{before, by_status, by_response, judged}

@@ -1,5 +1,5 @@
 -- What bytes are to an answer, part by part.
-use Rattle.std.proofs.Common.{◌≡◌, zero, suc, ℕ, ◌+◌, ◌<◌, Bool, true, false, cond, List, [], ◌∷◌, ◌++◌, length, refl, ap, sym, ◌∙◌, append_assoc, append-nil, length-append, arith}
+use Rattle.std.proofs.Common.{◌≡◌, ℕ, ◌+◌, ◌<◌, true, cond, List, [], ◌∷◌, ◌++◌, length, refl, ap, sym, ◌∙◌, append_assoc, arith}
 use Rattle.proxy_message.specs.declared.progress.Progress.{Progress}
 use Rattle.proxy_message.specs.declared.stage.Stage.{Stage}
 use Rattle.proxy_message.specs.declared.stage.Stage.TheVariants as stage

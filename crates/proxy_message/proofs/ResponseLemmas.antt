@@ -1,12 +1,12 @@
 -- The function reads just what the grammar says of a response.
-use Rattle.std.proofs.Common.{◌≡◌, ◌≢◌, ℕ, zero, suc, ◌+◌, ◌<◌, ◌≤◌, Bool, true, false, cond, ◌&&◌, eqb, List, [], ◌∷◌, ◌++◌, length, All, Option, Some, None, sym, refl, ap, ◌∙◌, arith, subst}
-use Rattle.std.specs.Prelude.{option_and_then, codes, IsTrue}
+use Rattle.std.proofs.Common.{◌≡◌, ℕ, suc, ◌+◌, Bool, true, false, cond, ◌&&◌, eqb, List, [], ◌∷◌, ◌++◌, length, Option, Some, None, sym, refl, ap, ◌∙◌, arith, subst}
+use Rattle.std.specs.Prelude.{codes, IsTrue}
 use Rattle.std.specs.Char.{is_ascii_digit}
 use Rattle.std.proofs.lemmas.List.{append_assoc}
 use Rattle.std.proofs.lemmas.Option.{same_Some}
 use Rattle.std.proofs.lemmas.Bool.{eqb-true}
 use Rattle.std.proofs.lemmas.List.Elements.{All-head, All-tail, All-cons, All-nil}
-use Rattle.httparse.specs.Grammar.{is_value_byte, AllPass, LineEnd, crlf, lf, print_end, print_blank, print_version, IsField, print_section, print_reason, reason_phrase, ResponseHead, print_response, IsResponseHead, ReadsResponse}
+use Rattle.httparse.specs.Grammar.{is_value_byte, AllPass, LineEnd, crlf, lf, print_end, print_blank, print_version, print_section, print_reason, reason_phrase, ResponseHead, print_response, IsResponseHead, ReadsResponse}
 use Rattle.http_head.specs.Read.{run, after_run, read_byte, read_bytes, read_end, read_section, read_blank, read_minor}
 use Rattle.http_head.proofs.GrammarLemmas.{Starts}
 use Rattle.http_head.proofs.ReadLemmas.{end_at, raw_at, section_at, blank_at, minor_at, fields_short, bind_some, run_split, run_passes, byte_sound, bytes_sound, end_sound, section_sound, blank_sound, minor_sound}

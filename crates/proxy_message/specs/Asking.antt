@@ -47,17 +47,11 @@ connection_names =
     ∷ codes "te"
     ∷ []
 
-abbrev pub is_among_own : List ℕ → Bool
-is_among_own name = list_any (bytes_eq name) own_names
-
-abbrev pub is_among_connection : List ℕ → Bool
-is_among_connection name = list_any (bytes_eq name) connection_names
-
 unfoldable pub is_own : List ℕ → Bool
-is_own name = is_among_own name
+is_own name = list_any (bytes_eq name) own_names
 
 unfoldable pub is_of_connection : List ℕ → Bool
-is_of_connection name = is_among_connection name
+is_of_connection name = list_any (bytes_eq name) connection_names
 
 -- a name in lower case is one of them, or one that Connection lists
 abbrev pub is_withheld : Entries FieldValue → List ℕ → Bool

@@ -13,7 +13,6 @@ use Rattle.lt_http_body.specs.declared.state.State.TheVariants as state
 use Rattle.cgi_text.specs.declared.head.CgiHead.{CgiHead}
 use Rattle.cgi_text.specs.Head.{fields_of}
 use Rattle.cgi_text.specs.Passed.{passed_on, stated_of}
-use Rattle.proxy_message.specs.declared.limits.TheConstants.{BODY_LIMIT}
 use Rattle.proxy_message.specs.declared.progress.Progress.{Progress}
 use Rattle.proxy_message.specs.declared.refusal.AnswerState.{AnswerState}
 use Rattle.proxy_message.specs.declared.refusal.AnswerState.TheVariants.{NeedMore, Done}

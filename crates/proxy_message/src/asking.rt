@@ -3,7 +3,7 @@ ghost use Rattle.std.specs.Prelude.{◌≡◌, ◌<◌, ◌++◌, ◌∷◌, [],
 ghost use Rattle.http_header.specs.HeaderMap.{get_all};
 ghost use Rattle.http_reply.specs.Replies.{field_line};
 ghost use Rattle.cgi_text.specs.Request.{parts_of};
-ghost use Rattle.proxy_message.specs.Asking.{hex_digit, escaped_byte, escaped, request_line, is_among_own, is_among_connection, is_own, is_of_connection, is_withheld, kept_line, kept_lines, listed, forwarded_line, length_line, last_lines, own_lines, ask_of};
+ghost use Rattle.proxy_message.specs.Asking.{hex_digit, escaped_byte, escaped, request_line, is_own, is_of_connection, is_withheld, kept_line, kept_lines, listed, forwarded_line, length_line, last_lines, own_lines, ask_of};
 
 use cgi_text::{GateRequest, push_ip};
 use http_head::has_option;
@@ -76,14 +76,9 @@ fn push_field(text: &mut Text, name: &[u8], value: &[u8]) -> Result<(), NoMemory
 }
 
 /// The fields that are written here, and Expect, which was answered here.
+#[tactic(auto, unfolding(crate::specs::Asking::is_own))]
 fn is_own(name: &[u8]) -> bool
     ensures { result ≡ is_own name.now }
-{
-    is_among_own(name)
-}
-
-fn is_among_own(name: &[u8]) -> bool
-    ensures { result ≡ is_among_own name.now }
 {
     name == b"content-length".as_slice()
         || name == b"expect".as_slice()
@@ -94,14 +89,9 @@ fn is_among_own(name: &[u8]) -> bool
 }
 
 /// The fields that speak of one connection alone (RFC 9110, section 7.6.1).
+#[tactic(auto, unfolding(crate::specs::Asking::is_of_connection))]
 fn is_of_connection(name: &[u8]) -> bool
     ensures { result ≡ is_of_connection name.now }
-{
-    is_among_connection(name)
-}
-
-fn is_among_connection(name: &[u8]) -> bool
-    ensures { result ≡ is_among_connection name.now }
 {
     name == b"connection".as_slice()
         || name == b"keep-alive".as_slice()

@@ -1,4 +1,4 @@
-use Rattle.std.proofs.Common.{◌≡◌, ℕ, ◌-◌, List, take, subst, ◌∙◌, ap, sym, arith}
+use Rattle.std.proofs.Common.{ℕ, ◌-◌, List, take, subst, ◌∙◌, ap, sym, arith}
 use Rattle.http_head.specs.Ends.{head_end}
 use Rattle.proxy_message.specs.Progress.{judged}
 use Rattle.proxy_message.specs.Feeding.{IsHeaded}
