@@ -2,3 +2,4 @@ pub mod HeadLemmas
 pub mod PairLemmas
 pub mod ParamLemmas
 pub mod SectionLemmas
+pub mod SizeLemmas

@@ -1,5 +1,5 @@
 -- The parameters of a request (RFC 3875, section 4.1; FastCGI Specification 1.0, section 6.2; lighttpd's mod_fastcgi).
-use Rattle.std.specs.Prelude.{ℕ, ◌+◌, ◌==◌, Bool, List, [], ◌∷◌, ◌++◌, length, map, sum_by, flat_map, bytes_eq, codes, decimal, if◌then◌else◌}
+use Rattle.std.specs.Prelude.{ℕ, ◌+◌, ◌*◌, ◌==◌, Bool, List, [], ◌∷◌, ◌++◌, length, map, sum_by, flat_map, bytes_eq, codes, decimal, if◌then◌else◌}
 use Rattle.std.specs.Char.{is_ascii_alphanumeric, to_ascii_uppercase}
 use Rattle.std.specs.List.{list_any}
 use Rattle.http_header.specs.FieldValue.{FieldValue}
@@ -119,3 +119,8 @@ texts_size r =
 -- how many bytes the texts of a request and its fields have together
 abbrev pub request_size : RequestParts → ℕ
 request_size r = texts_size r + fields_size r.fields
+
+-- the most bytes that the parameters of a request have: the document root and the script stand in SCRIPT_FILENAME once
+-- more, each name of a field has two lengths and HTTP_ beside it, and the rest are the names and the numbers
+abbrev pub params_limit : RequestParts → ℕ
+params_limit r = 465 + request_size r + length r.root + length r.script + 13 * length r.fields
