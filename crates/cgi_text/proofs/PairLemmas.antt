@@ -2,7 +2,7 @@
 use Rattle.std.proofs.Common.{◌≡◌, ℕ, zero, suc, ◌+◌, ◌-◌, ◌*◌, ◌/◌, ◌%◌, ◌^◌, ◌<◌, ◌≤◌, Bool, true, false, cond, leb, List, [], ◌∷◌, ◌++◌, length, take, drop, flat_map, All, Option, Some, None, sym, refl, ap, ◌∙◌, arith, append_assoc, length-append}
 use Rattle.std.specs.Prelude.{option_map}
 use Rattle.std.proofs.lemmas.Bool.{lt-ltb, le-ltb, le-leb, leb-true}
-use Rattle.std.proofs.lemmas.List.Elements.{All-head, All-tail}
+use Rattle.std.proofs.lemmas.List.Elements.{All-head, All-tail, All-nil, All-cons}
 use Rattle.std.proofs.Math.Seq.{take-append_seam, drop-append_seam}
 use Rattle.cgi_text.specs.Pairs.{PairList, IsShort, length_bytes, pair_bytes, pairs_bytes, read_long, read_length, Read, cut_pair, read_value, read_name, read_pair, with_more, read_at_most, read_pairs}
 
@@ -83,3 +83,25 @@ pairs_fit (p ∷ pairs) = omega (arith, pair_there p, pairs_fit pairs, length-ap
 pub pairs_read : (pairs : PairList) → All IsShort pairs → read_pairs (pairs_bytes pairs) ≡ Some pairs
 unfolding read_pairs
 pairs_read pairs short = many_read (length (pairs_bytes pairs)) pairs (pairs_fit pairs) short
+
+-- what is written has the bytes of the name and of the value
+pair_holds : (p : List ℕ × List ℕ) → length p.0 + length p.1 ≤ length (pair_bytes p)
+unfolding pair_bytes
+pair_holds p =
+    omega (
+      arith,
+      length-append (length_bytes (length p.0)) (length_bytes (length p.1) ++ (p.0 ++ p.1)),
+      length-append (length_bytes (length p.1)) (p.0 ++ p.1),
+      length-append p.0 p.1,
+    )
+
+-- pairs that are written in so few bytes are short
+all_short : (pairs : PairList) → length (pairs_bytes pairs) < 2 ^ 31 → All IsShort pairs
+all_short [] few = All-nil IsShort
+all_short (p ∷ pairs) few =
+    let size = length-append (pair_bytes p) (pairs_bytes pairs) in
+    All-cons IsShort p pairs (record { name = omega (arith, few, size, pair_holds p); value = omega (arith, few, size, pair_holds p) })
+    (all_short pairs (omega (arith, few, size)))
+
+pub few_bytes_read : (pairs : PairList) → length (pairs_bytes pairs) < 2 ^ 31 → read_pairs (pairs_bytes pairs) ≡ Some pairs
+few_bytes_read pairs few = pairs_read pairs (all_short pairs few)
