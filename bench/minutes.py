@@ -2,7 +2,7 @@
 """Processor minutes of the gate, a crate each.
 
     python3 bench/minutes.py record   runs .ci/run, and keeps what each crate's checks cost in out/minutes.json
-    python3 bench/minutes.py          prints the last whole run as the README's table has it
+    python3 bench/minutes.py          prints a table of the last whole run that passed
 
 The prover's processes name their crate. Every half second each one's processor time is read, so the last half second
 of a process may be missing.
@@ -29,21 +29,37 @@ def crate_of(words):
     return next((name for word, name in zip(words, words[1:]) if word == "--crate-name"), None)
 
 
-def look(seen):
-    """Adds to `seen`, by process, the crate and the processor seconds that it has taken so far."""
+def processes():
+    """Each process by its number, with the fields of proc(5)'s stat from the third on."""
+    found = {}
     for pid in filter(str.isdigit, os.listdir("/proc")):
+        try:
+            with open(f"/proc/{pid}/stat") as file:
+                found[pid] = file.read().rpartition(")")[2].split()
+        except OSError:
+            pass
+    return found
+
+
+def is_below(pid, above, found):
+    """Whether a process was started by another, or by one that it started."""
+    while pid in found and pid != above:
+        pid = found[pid][1]
+    return pid == above
+
+
+def look(gate, seen):
+    """Adds to `seen`, by process, the crate and the processor seconds that it has taken so far for this gate."""
+    found = processes()
+    for pid, fields in found.items():
         try:
             with open(f"/proc/{pid}/cmdline", "rb") as file:
                 words = file.read().decode(errors="replace").split("\0")
-            if not words[0].endswith("/rattle"):
-                continue
-            with open(f"/proc/{pid}/stat") as file:
-                fields = file.read().rpartition(")")[2].split()
         except OSError:
             continue
         crate = crate_of(words)
-        if crate:
-            # proc(5), fields 14 and 15: its time in user and system mode; its start tells it from an older process
+        if words[0].endswith("/rattle") and crate and is_below(pid, gate, found):
+            # fields 14 and 15: its time in user and system mode; its start tells it from an older process
             seen[pid, fields[19]] = crate, sum(map(int, fields[11:13])) / TICKS
 
 
@@ -52,7 +68,7 @@ def record():
     began = time.time()
     gate = subprocess.Popen(["bash", os.path.join(TOP, ".ci", "run")])
     while gate.poll() is None:
-        look(seen)
+        look(str(gate.pid), seen)
         time.sleep(0.5)
     minutes = {}
     for crate, seconds in seen.values():
