@@ -91,8 +91,13 @@ fn a_head_that_is_not_read_is_refused(rt: HostRuntime) -> Result<(), Fail> {
     Ok(())
 }
 
-/// So many fields of so many letters, and an end.
-fn filled(alloc: Global, letters: usize, fields: usize, end: &[u8]) -> Result<Text, NoMemory> {
+/// What is answered to so many fields of so many letters, and an end.
+fn answered(
+    alloc: Global,
+    letters: usize,
+    fields: usize,
+    end: &[u8],
+) -> Result<Option<CgiRefusal>, NoMemory> {
     let mut text = Text::new(alloc);
     for _ in 0..fields {
         text.push_all(b"X:")?;
@@ -102,40 +107,20 @@ fn filled(alloc: Global, letters: usize, fields: usize, end: &[u8]) -> Result<Te
         text.push_all(b"\r\n")?;
     }
     text.push_all(end)?;
-    Ok(text)
-}
-
-/// What is answered to such bytes.
-fn answered(
-    alloc: Global,
-    letters: usize,
-    fields: usize,
-    end: &[u8],
-) -> Result<Option<CgiRefusal>, NoMemory> {
-    let bytes = filled(alloc, letters, fields, end)?;
-    Ok(read_cgi_head(alloc, bytes.bytes()).err())
+    Ok(read_cgi_head(alloc, text.bytes()).err())
 }
 
 #[test]
 fn a_head_has_8192_bytes_and_64_lines_at_most(rt: HostRuntime) -> Result<(), Fail> {
     let alloc = rt.alloc();
+    let more = Some(CgiRefusal::NeedMore);
+    let long = Some(CgiRefusal::CgiHeadTooLong);
+    let bad = Some(CgiRefusal::BadCgiHead);
     assert_eq!(rt; answered(alloc, HEAD_LIMIT - 6, 1, b"\r\n")?, None);
-    assert_eq!(rt;
-        answered(alloc, HEAD_LIMIT - 5, 1, b"\r\n")?,
-        Some(CgiRefusal::CgiHeadTooLong)
-    );
-    assert_eq!(rt;
-        answered(alloc, HEAD_LIMIT - 5, 1, b"")?,
-        Some(CgiRefusal::NeedMore)
-    );
-    assert_eq!(rt;
-        answered(alloc, HEAD_LIMIT - 4, 1, b"")?,
-        Some(CgiRefusal::CgiHeadTooLong)
-    );
+    assert_eq!(rt; answered(alloc, HEAD_LIMIT - 5, 1, b"\r\n")?, long);
+    assert_eq!(rt; answered(alloc, HEAD_LIMIT - 5, 1, b"")?, more);
+    assert_eq!(rt; answered(alloc, HEAD_LIMIT - 4, 1, b"")?, long);
     assert_eq!(rt; answered(alloc, 1, 64, b"\n")?, None);
-    assert_eq!(rt;
-        answered(alloc, 1, 65, b"\n")?,
-        Some(CgiRefusal::BadCgiHead)
-    );
+    assert_eq!(rt; answered(alloc, 1, 65, b"\n")?, bad);
     Ok(())
 }
