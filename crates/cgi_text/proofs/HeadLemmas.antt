@@ -9,7 +9,6 @@ use Rattle.http_header.specs.FieldValue.{FieldValue, IsFieldValue}
 use Rattle.http_header.specs.HeaderMap.{Entries}
 use Rattle.http_head.specs.Fields.{Pair, map_of}
 use Rattle.http_head.specs.Read.{read_end, read_field, Section, section_by, read_section}
-use Rattle.http_head.specs.declared.ends.HeadEnd.{HeadEnd}
 use Rattle.http_head.specs.declared.ends.HeadEnd.TheVariants.{At}
 use Rattle.http_head.proofs.ReadLemmas.{section_at, section_sound, map_some}
 use Rattle.http_head.proofs.TakenLemmas.{values_pass, parts_pass}

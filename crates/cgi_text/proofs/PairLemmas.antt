@@ -1,10 +1,10 @@
 -- Pairs are read back from what is written.
-use Rattle.std.proofs.Common.{◌≡◌, ℕ, zero, suc, ◌+◌, ◌-◌, ◌*◌, ◌/◌, ◌%◌, ◌^◌, ◌<◌, ◌≤◌, Bool, true, false, cond, leb, List, [], ◌∷◌, ◌++◌, length, take, drop, flat_map, All, Option, Some, None, sym, refl, ap, ◌∙◌, arith, append_assoc, length-append}
+use Rattle.std.proofs.Common.{◌≡◌, ℕ, zero, suc, ◌+◌, ◌-◌, ◌*◌, ◌/◌, ◌%◌, ◌^◌, ◌<◌, ◌≤◌, Bool, true, false, cond, leb, List, [], ◌∷◌, ◌++◌, length, All, Some, refl, ap, ◌∙◌, arith, append_assoc, length-append}
 use Rattle.std.specs.Prelude.{option_map}
 use Rattle.std.proofs.lemmas.Bool.{lt-ltb, le-ltb, le-leb, leb-true}
 use Rattle.std.proofs.lemmas.List.Elements.{All-head, All-tail, All-nil, All-cons}
 use Rattle.std.proofs.Math.Seq.{take-append_seam, drop-append_seam}
-use Rattle.cgi_text.specs.Pairs.{PairList, IsShort, length_bytes, pair_bytes, pairs_bytes, read_long, read_length, Read, cut_pair, read_value, read_name, read_pair, with_more, read_at_most, read_pairs}
+use Rattle.cgi_text.specs.Pairs.{PairList, IsShort, length_bytes, pair_bytes, pairs_bytes, read_length, cut_pair, read_value, read_name, read_pair, with_more, read_at_most, read_pairs}
 
 -- four bytes give the number again
 hundreds : (n : ℕ) → n / 256 / 256 ≡ n / 65536

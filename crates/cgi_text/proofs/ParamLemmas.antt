@@ -1,14 +1,14 @@
 -- Parameters that may be left out, and those of the fields.
-use Rattle.std.proofs.Common.{◌≡◌, ◌≢◌, ◌⊎◌, inl, inr, ℕ, zero, suc, ◌+◌, ◌<◌, ◌≤◌, Bool, true, false, List, [], ◌∷◌, ◌++◌, length, map, flat_map, get_or, codes, Option, Some, None, Result, Ok, Err, OnOk, All, slice_get, sym, refl, ap, ap₂, ◌∙◌, subst, arith, append-nil, append_assoc}
+use Rattle.std.proofs.Common.{◌≡◌, ◌≢◌, ◌⊎◌, inl, inr, ℕ, zero, suc, ◌<◌, true, false, List, [], ◌∷◌, ◌++◌, length, flat_map, codes, Some, None, Result, Ok, Err, OnOk, All, slice_get, sym, refl, ap, ◌∙◌, arith, append-nil, append_assoc}
 use Rattle.std.specs.Prelude.{bytes_eq, ◌==◌}
 use Rattle.std.proofs.lemmas.Slice.Eq.{bytes_eq-Decides}
 use Rattle.std.proofs.lemmas.Bool.{cases_Bool, eqb-true}
 use Rattle.std.proofs.lemmas.List.{get_or-map, length-map}
 use Rattle.std.proofs.lemmas.Grind.{flat_map-append}
-use Rattle.std.proofs.lemmas.List.Elements.{All-head, All-tail, All-nil, All-cons}
+use Rattle.std.proofs.lemmas.List.Elements.{All-head, All-tail}
 use Rattle.http_header.specs.FieldValue.{FieldValue}
 use Rattle.http_header.specs.HeaderMap.{Entry, Entries, keys, get_all, IsUnique}
-use Rattle.cgi_text.specs.Pairs.{PairList, pair_bytes, pairs_bytes}
+use Rattle.cgi_text.specs.Pairs.{pair_bytes, pairs_bytes}
 use Rattle.cgi_text.specs.Request.{RequestParts, ip_text}
 use Rattle.cgi_text.specs.Params.{joined, info_param, type_param, server_name, field_param, field_params, request_params, script_params, address_params, body_params, params}
 

@@ -1,5 +1,5 @@
 -- What is passed on of a head that was read.
-use Rattle.std.proofs.Common.{◌≡◌, ℕ, ◌<◌, Bool, true, false, cond, List, [], ◌∷◌, ◌++◌, map, length, flat_map, All, Option, Some, None, Result, Ok, Err, refl, sym, subst, ap, ◌∙◌, arith}
+use Rattle.std.proofs.Common.{◌≡◌, ℕ, Bool, true, false, cond, List, [], ◌∷◌, ◌++◌, map, flat_map, All, Option, Some, None, Result, Ok, Err, refl, sym, subst, ap, ◌∙◌, arith}
 use Rattle.std.specs.Prelude.{IsTrue, bytes_eq}
 use Rattle.std.specs.Char.{to_ascii_lowercase}
 use Rattle.std.proofs.lemmas.List.{length-map}
@@ -17,7 +17,7 @@ use Rattle.http_reply.specs.Reading.{IsFieldLine}
 use Rattle.http_head.specs.Fields as fields
 use Rattle.http_head.specs.Fields.{Pair}
 use Rattle.cgi_text.specs.Passed.{is_withheld, passed_line, passed_on}
-use Rattle.cgi_text.specs.Head.{head_with, status_of, fields_of, cgi_head, IsHeadOf}
+use Rattle.cgi_text.specs.Head.{head_with, status_of, fields_of, cgi_head}
 use Rattle.cgi_text.specs.declared.head.CgiHead.{CgiHead}
 use Rattle.cgi_text.specs.declared.head.CgiRefusal.{CgiRefusal}
 use Rattle.cgi_text.proofs.SectionLemmas.{head_is_section}

@@ -1,6 +1,6 @@
 -- How long the parameters of a request are.
-use Rattle.std.proofs.Common.{◌≡◌, ◌⊎◌, inl, inr, ℕ, zero, suc, ◌+◌, ◌*◌, ◌/◌, ◌%◌, ◌<◌, ◌≤◌, Bool, true, false, cond, eqb, leb, List, [], ◌∷◌, ◌++◌, length, map, flat_map, codes, decimal, refl, ap, subst, sym, arith, length-append}
-use Rattle.std.specs.Prelude.{bytes_eq, sum_by, slice_index}
+use Rattle.std.proofs.Common.{◌≡◌, ◌⊎◌, inl, inr, ℕ, ◌+◌, ◌*◌, ◌/◌, ◌%◌, ◌≤◌, Bool, true, false, cond, eqb, leb, List, [], ◌∷◌, ◌++◌, length, map, flat_map, codes, decimal, refl, ap, subst, sym, arith, length-append}
+use Rattle.std.specs.Prelude.{bytes_eq}
 use Rattle.std.proofs.lemmas.Bool.{cases_Bool}
 use Rattle.std.proofs.lemmas.Slice.Eq.{bytes_eq-Decides}
 use Rattle.std.proofs.lemmas.List.{length-map}
@@ -10,7 +10,7 @@ use Rattle.http_header.specs.FieldValue.{FieldValue}
 use Rattle.http_header.specs.HeaderMap.{Entry, Entries, get_all}
 use Rattle.cgi_text.specs.Pairs.{PairList, length_bytes, pair_bytes, pairs_bytes}
 use Rattle.cgi_text.specs.Request.{RequestParts, ip_text}
-use Rattle.cgi_text.specs.Params.{joined, variable_byte, variable_name, is_left_out, separator_of, field_param, field_params, type_param, info_param, server_name, protocol, request_params, script_params, address_params, body_params, params, values_size, fields_size, texts_size, request_size, params_limit}
+use Rattle.cgi_text.specs.Params.{joined, variable_byte, variable_name, is_left_out, separator_of, field_param, field_params, type_param, info_param, server_name, protocol, request_params, script_params, address_params, body_params, params, values_size, fields_size, params_limit}
 
 length_size : (n : ℕ) → length (length_bytes n) ≤ 4
 unfolding length_bytes

@@ -1,4 +1,4 @@
-use Rattle.std.proofs.Common.{◌<◌, length, inr, arith, rules}
+use Rattle.std.proofs.Common.{inr, rules}
 use Rattle.cgi_text.proofs.HeadLemmas.{bad_head, values_fit, head_says}
 use Rattle.cgi_text.proofs.head.read_cgi_head.Goals as goal
 
