@@ -128,7 +128,7 @@ fn expect_taken(
 #[test]
 fn each_request_gets_the_reply_that_it_asks_for(rt: HostRuntime) -> Result<(), Fail> {
     let alloc = rt.alloc();
-    let mut rows = 0;
+    let mut rows = 0u32;
     for row in ROWS.split(|byte| *byte == b'|') {
         let mut sides = row.split(|byte| *byte == b'>');
         let sent = sides.next().unwrap_or(&[]);
@@ -136,7 +136,7 @@ fn each_request_gets_the_reply_that_it_asks_for(rt: HostRuntime) -> Result<(), F
         for piece in [1, 4096] {
             expect_taken(&rt, alloc, sent, piece, taken)?;
         }
-        rows += 1u32;
+        rows = rows.wrapping_add(1);
     }
     assert_eq!(rt; rows, 19);
     Ok(())
