@@ -1,3 +1,4 @@
+pub mod AskingLemmas
 pub mod ReadingLemmas
 pub mod FeedingLemmas
 mod EndLemmas

@@ -1,4 +1,5 @@
 pub mod Asking
+pub mod Bounds
 pub mod Feeding
 pub mod Progress
 pub mod Reading
