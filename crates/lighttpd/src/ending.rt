@@ -1,9 +1,9 @@
 //! The end of the process: the status's text on standard error, and its number.
 ghost use Rattle.std.specs.Prelude.{◌≡◌};
 ghost use Rattle.std.specs.Process.{exit_status};
-ghost use Rattle.lighttpd.specs.Exits.{exit_number};
+ghost use Rattle.lt_commands.specs.Exits.{exit_number};
 
-use crate::status::Status;
+use lt_commands::Status;
 use std::process::ExitCode;
 
 /// Says on standard error why the call was not done, and answers the number with which the process ends.

@@ -1,26 +1,15 @@
 //! The program: `replay` serves the clients of a script, `-p` prints a configuration.
-//! Promised, by `offline`: each client takes a prefix of its own stream, and all of it where it is closed clean; what
-//! is due for an event follows in the same turn; each status comes for its cause, and the first refusal is answered.
-//! Stands on `server_core` for the turns, `script_net` for the script's net and report, `conf_parse` for the printed
-//! form, and on `files_disk` for named texts. Standard output is written in `out_sink` alone.
+//! What a call does is `lt_commands`; named texts are `files_disk`'s. Here is the edge of the process: its words,
+//! standard output (`out_sink`), and its end (`ending`), the status's text on standard error and its number.
 #![tactic(auto)]
 
-mod answer;
 mod ending;
-mod offline;
 mod out_sink;
-mod printing;
-mod reading;
-mod root;
-mod run;
-mod status;
-mod words;
 
-use crate::answer::answer;
 use crate::ending::end;
 use crate::out_sink::OutSink;
-use crate::status::Status;
 use files_disk::DiskTexts;
+use lt_commands::{Status, answer};
 use std::io::ErrorKind;
 use std::process::ExitCode;
 use std::{env, io};
@@ -47,8 +36,3 @@ fn words_of(rt: &HostRuntime) -> io::Result<Vec<String>> {
     }
     Ok(words)
 }
-
-#[cfg(test)]
-mod serving_tests;
-#[cfg(test)]
-mod tests;

@@ -1,0 +1,61 @@
+-- How clients are closed where no line of a script makes a read or a write fail.
+use Rattle.std.proofs.Common.{◌≡◌, ℕ, List, [], ◌∷◌, Bool, true, false, ◌&&◌, ◌||◌, ◌==◌, if◌then◌else◌, refl, sym, ap, subst, ◌∙◌}
+use Rattle.std.specs.List.{list_any}
+use Rattle.lt_world.specs.Acts.{is_deed}
+use Rattle.lt_world.specs.declared.files.Call.{Call}
+use Rattle.lt_world.specs.declared.net.Ending.{Ending}
+use Rattle.lt_world.specs.declared.net.Ending.TheVariants as ending
+use Rattle.lt_world.specs.Disk.{Tree}
+use Rattle.lt_world.specs.Trace.{Act, Entry, Accepted, Readable, Writable, Read, ReadEnd, NotYet, Failed, Wrote, Connect, Close}
+use Rattle.lt_script.specs.declared.script.Step.{Step}
+use Rattle.script_net.specs.Calls.{Game}
+use Rattle.script_net.specs.Plays.{played}
+use Rattle.script_net.specs.Playing.{Playing, unplayed, IsLater}
+use Rattle.script_net.specs.Failing.{IsCalm, is_failure, NoneFailed}
+use Rattle.script_net.proofs.Calm.{calm_never_fails}
+use Rattle.server_model.specs.Site.{Site}
+use Rattle.server_model.specs.Deeds.{Deed, Ours, own, ours}
+use Rattle.server_model.specs.Client.{has_failed}
+use Rattle.server_model.specs.Causes.{IsCause}
+use Rattle.lt_commands.specs.Runs.{Served}
+use Rattle.lt_commands.specs.Endings.{IsCalmEnding, AllEndCalmly}
+
+or_right : (a b : Bool) → (a || b) ≡ false → b ≡ false
+or_right true b none = absurd (cc (none))
+or_right false b none = none
+
+-- nothing failed on a link, where nothing did on this act and before it
+unfailed_by : (t : Bool) (act : Act) (deeds : List Deed) (rest : Bool) → (is_failure act || rest) ≡ false → (rest ≡ false → has_failed (ours deeds) ≡ false) → has_failed (ours (if t then Ours act ∷ deeds else deeds)) ≡ false
+unfailed_by false act deeds rest none before = before (or_right (is_failure act) rest none)
+unfailed_by true (Accepted peer local) deeds rest none before = before none
+unfailed_by true Readable deeds rest none before = before none
+unfailed_by true Writable deeds rest none before = before none
+unfailed_by true (Read asked bytes) deeds rest none before = before none
+unfailed_by true ReadEnd deeds rest none before = before none
+unfailed_by true (NotYet way) deeds rest none before = before none
+unfailed_by true (Failed way) deeds rest none before = absurd (cc (none))
+unfailed_by true (Wrote offered bytes) deeds rest none before = before none
+unfailed_by true (Connect owner to link) deeds rest none before = before none
+unfailed_by true (Close e) deeds rest none before = before none
+
+unfailed : (link : ℕ) (trace : List Entry) → NoneFailed trace → has_failed (ours (own link trace)) ≡ false
+unfailed link [] none = refl
+unfailed link (entry ∷ trace) none =
+    unfailed_by (is_deed entry.act && entry.link == link) entry.act (own link trace) (list_any (λ e. is_failure e.act) trace) none (unfailed link trace)
+
+-- with no file's fault and no failure of its own link, a client is closed in one of three ways
+calm_cause : (e : Ending) (deeds : List Deed) → has_failed (ours deeds) ≡ false → IsCause e (ours deeds) ⊥ → IsCalmEnding e
+calm_cause ending.Clean deeds sound cause = tt
+calm_cause ending.Full deeds sound cause = tt
+calm_cause ending.NoMemory deeds sound cause = tt
+calm_cause ending.ClientFault deeds sound cause = absurd (cc (sound, cause))
+calm_cause ending.FileFault deeds sound cause = absurd cause
+calm_cause ending.GatewayCut deeds sound cause = absurd cause
+calm_cause ending.Gate deeds sound cause = absurd cause
+
+-- a run over a net that began with calm steps
+pub calm_run : (site : Site) (tree : Tree) (calls : List Call) (steps : List Step) (a b : Playing) → a ≡ unplayed steps → IsLater a b → IsCalm steps → Served site tree calls b.game.trace → AllEndCalmly b.game.trace
+calm_run site tree calls steps a b begins later calm served link e is =
+    let same : b.game ≡ played later.calls (unplayed steps).game = later.plays ∙ ap (λ (p : Playing). played later.calls p.game) begins in
+    let none : NoneFailed b.game.trace = subst (λ (g : Game). NoneFailed g.trace) (sym same) (calm_never_fails steps later.calls calm) in
+    calm_cause e (own link b.game.trace) (unfailed link b.game.trace none) (served.caused link e is)

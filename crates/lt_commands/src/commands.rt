@@ -1,0 +1,198 @@
+//! The work that needs no sockets: a replay, and the printed configuration.
+ghost use Rattle.std.specs.Prelude.{◌≡◌, ◌≤◌, ◌++◌, ℕ, List, [], None, map, string_bytes};
+ghost use Rattle.lt_world.specs.Disk.{Disk};
+ghost use Rattle.lt_world.specs.Memory.{no_files, tree_of};
+ghost use Rattle.lt_world.specs.Causes.{Rose};
+ghost use Rattle.script_net.specs.Loads.{planted};
+ghost use Rattle.script_net.specs.Playing.{unplayed, IsLater};
+ghost use Rattle.script_net.specs.Steps.{events_left};
+ghost use Rattle.script_net.specs.Plays.{Plays};
+ghost use Rattle.script_net.specs.Failing.{IsCalm};
+ghost use Rattle.script_net.specs.Reports.{report_of};
+ghost use Rattle.lt_script.specs.declared.script.Script.{Script};
+ghost use Rattle.lt_script.specs.declared.script.Step.{Step};
+ghost use Rattle.conf_parse.specs.declared.tree.Tree.{Tree};
+ghost use Rattle.conf_parse.specs.Print.{printed};
+ghost use Rattle.server_model.specs.Site.{site_at};
+ghost use Rattle.server_model.specs.Files.{IsTable, Backs};
+ghost use Rattle.server_model.specs.Serves.{Serves};
+ghost use Rattle.server_core.specs.Within.{serving_at};
+ghost use Rattle.lt_commands.specs.Runs.{FinishFits, Served};
+ghost use Rattle.lt_commands.specs.Endings.{AllEndCalmly};
+ghost use Rattle.lt_commands.specs.Words.{Line, SpellsLine, Replay as replay_line, Print as print_line};
+ghost use Rattle.lt_commands.specs.Reading.{HasRoot, HasScript};
+ghost use Rattle.lt_commands.specs.Printing.{HasTree};
+ghost use Rattle.lt_commands.specs.Offline.{WordsSay, IsOfLine, IsRefusal, IsComplete, LineSays, ReplaySays, PrintSays, SinkSays, FaultsSay, MemorySays, PlaySays};
+ghost use Rattle.lt_commands.specs.Fetching.{LineAsks, ReplayAsks, PrintAsks};
+ghost use Rattle.lt_commands.specs.Serving.{ServesBy, ServesSome};
+
+use crate::printing::read_tree;
+use crate::reading::{read_conf, read_script};
+use crate::run::{Finish, run};
+use crate::status::Status;
+use crate::words::{Call, read_words};
+use conf_parse::print;
+use lt_world::{MemFiles, Sink, Texts};
+use script_net::{ScriptNet, report, write_all};
+use server_core::Server;
+use std::alloc::Global;
+
+/// Does what the words ask for, if it needs no sockets, and answers how it ended.
+///
+/// `replay -f CONF SCRIPT` serves the clients of a script and writes the report; `[-D] -p -f CONF` writes the printed
+/// form of a configuration. What cannot be done is the first of: the words, the configuration, the script, the output.
+pub fn offline<X: Texts, S: Sink>(
+    alloc: Global,
+    words: &[String],
+    texts: &mut X,
+    net: &mut ScriptNet,
+    files: &mut MemFiles,
+    sink: &mut S,
+) -> Status
+    requires net { net.old ≡ unplayed [] }
+    requires files { files.old ≡ no_files }
+
+    ensures words { WordsSay result (map string_bytes words.now) }
+    ensures texts { X.tells → (line : Line) → SpellsLine (map string_bytes words.now) line → LineSays result line (X.texts texts.old) }
+    ensures asks { X.tells → (line : Line) → SpellsLine (map string_bytes words.now) line → LineAsks result line (X.texts texts.old) (X.calls texts.old) (X.calls texts.new) }
+    ensures faults { FaultsSay result (X.faults texts.old) (X.faults texts.new) (S.faults sink.old) (S.faults sink.new) }
+    ensures memory { MemorySays result net.new.last }
+
+    // With good words and texts the call is done, unless something fails or memory is wanted.
+    ensures complete { X.tells → (conf script root : List ℕ) (said : Script) → SpellsLine (map string_bytes words.now) (replay_line conf script)
+        → HasRoot (X.texts texts.old conf) root → HasScript (X.texts texts.old script) said → IsComplete result }
+    ensures complete_print { X.tells → (conf : List ℕ) (tree : Tree) → SpellsLine (map string_bytes words.now) (print_line conf)
+        → HasTree (X.texts texts.old conf) tree → IsComplete result }
+
+    // Whatever the texts tell, the clients sent and the sockets took: there is a configuration for which each client took
+    // a prefix of its own stream, and all of it where it was closed clean; and what was due for each event followed it
+    // in the same turn. Where the texts tell, it is the one that they spell.
+    ensures serves { ServesSome result files.new.calls net.new.game.trace }
+    ensures spelled { X.tells → (conf script root : List ℕ) (said : Script) → SpellsLine (map string_bytes words.now) (replay_line conf script)
+        → HasRoot (X.texts texts.old conf) root → HasScript (X.texts texts.old script) said
+        → ServesBy root said result files.new.calls net.new.game.trace }
+
+    // A call that is refused, and one that prints, asked neither the net nor the files for anything.
+    ensures refused { IsRefusal result → (net.new ≡ net.old) × (files.new ≡ files.old) }
+    ensures unasked { (conf : List ℕ) → SpellsLine (map string_bytes words.now) (print_line conf) → (net.new ≡ net.old) × (files.new ≡ files.old) }
+
+    // A replay reports what the net told.
+    ensures report { S.tells → (conf script : List ℕ) → SpellsLine (map string_bytes words.now) (replay_line conf script)
+        → SinkSays result (report_of net.new.game.trace) (S.bytes sink.old) (S.bytes sink.new) }
+
+    ensures prints { S.tells → X.tells → (conf : List ℕ) (tree : Tree) → SpellsLine (map string_bytes words.now) (print_line conf)
+        → HasTree (X.texts texts.old conf) tree → SinkSays result (printed tree) (S.bytes sink.old) (S.bytes sink.new) }
+
+    // Words that are no line change nothing.
+    ensures usage { result ≡ Status.Usage → (texts.new ≡ texts.old) × (net.new ≡ net.old) × (files.new ≡ files.old) × (sink.new ≡ sink.old) }
+{
+    match read_words(words) {
+        None => Status::Usage,
+        Some(Call::Replay { conf, script }) => {
+            replay(alloc, conf, script, texts, net, files, sink)
+        }
+        Some(Call::Print { conf }) => print_conf(alloc, conf, texts, sink),
+    }
+}
+
+fn replay<X: Texts, S: Sink>(
+    alloc: Global,
+    conf: &str,
+    script: &str,
+    texts: &mut X,
+    net: &mut ScriptNet,
+    files: &mut MemFiles,
+    sink: &mut S,
+) -> Status
+    requires net { net.old ≡ unplayed [] }
+    requires files { files.old ≡ no_files }
+    ensures line { IsOfLine result }
+    ensures texts { X.tells → ReplaySays result (X.texts texts.old conf.now) (X.texts texts.old script.now) }
+    ensures asks { X.tells → ReplayAsks result conf.now script.now (X.texts texts.old) (X.calls texts.old) (X.calls texts.new) }
+    ensures faults { FaultsSay result (X.faults texts.old) (X.faults texts.new) (S.faults sink.old) (S.faults sink.new) }
+    ensures memory { MemorySays result net.new.last }
+    ensures complete { X.tells → (root : List ℕ) (said : Script) → HasRoot (X.texts texts.old conf.now) root → HasScript (X.texts texts.old script.now) said → IsComplete result }
+    ensures serves { ServesSome result files.new.calls net.new.game.trace }
+    ensures spelled { X.tells → (root : List ℕ) (said : Script) → HasRoot (X.texts texts.old conf.now) root → HasScript (X.texts texts.old script.now) said
+        → ServesBy root said result files.new.calls net.new.game.trace }
+    ensures refused { IsRefusal result → (net.new ≡ net.old) × (files.new ≡ files.old) }
+    ensures report { S.tells → SinkSays result (report_of net.new.game.trace) (S.bytes sink.old) (S.bytes sink.new) }
+{
+    let root = match read_conf(alloc, texts, conf) {
+        Ok(root) => root,
+        Err(status) => return status,
+    };
+    let script = match read_script(alloc, texts, script) {
+        Ok(script) => script,
+        Err(status) => return status,
+    };
+    if net.load(&script, files).is_err() {
+        return Status::NoMemory;
+    }
+    match Server::new(alloc, root) {
+        Ok(server) => play(server, net, files, sink),
+        Err(_) => Status::NoMemory,
+    }
+}
+
+// Serves the clients of a script that was loaded, and reports what they took.
+fn play<S: Sink>(server: Server, net: &mut ScriptNet, files: &mut MemFiles, sink: &mut S) -> Status
+    requires fresh { files.old ≡ record no_files { places = files.old.places } }
+    requires begins { net.old.game.trace ≡ [] }
+    requires table { (links : ℕ) → IsTable links server.table }
+    requires backs { (disk : Disk) → Backs disk.table server.table }
+    requires serves { (disk : Disk) → disk.calls ≡ [] → ((file : ℕ) → disk.table file ≡ None) → Serves disk (serving_at server) [] }
+    ensures serves { Served server.site (tree_of files.old) files.new.calls net.new.game.trace }
+    ensures ends { PlaySays result net.new.last }
+    ensures calm { (steps : List Step) → net.old ≡ unplayed steps → IsCalm steps → AllEndCalmly net.new.game.trace }
+    ensures plays { (steps : List Step) → net.old ≡ unplayed steps → result ≡ Status.Done → Plays steps net.new.game.trace [] }
+    ensures report { S.tells → SinkSays result (report_of net.new.game.trace) (S.bytes sink.old) (S.bytes sink.new) }
+    ensures cause { result ≡ Status.SinkFault → Rose (S.faults sink.old) (S.faults sink.new) }
+{
+    match serve(server, net, files) {
+        Finish::NoMemory => Status::NoMemory,
+        Finish::Over => match report(net, sink) {
+            Ok(()) => Status::Done,
+            Err(_) => Status::SinkFault,
+        },
+    }
+}
+
+// Takes turns until the net is over, and ends the server.
+fn serve(server: Server, net: &mut ScriptNet, files: &mut MemFiles) -> Finish
+    requires fresh { files.old ≡ record no_files { places = files.old.places } }
+    requires begins { net.old.game.trace ≡ [] }
+    requires table { (links : ℕ) → IsTable links server.table }
+    requires backs { (disk : Disk) → Backs disk.table server.table }
+    requires serves { (disk : Disk) → disk.calls ≡ [] → ((file : ℕ) → disk.table file ≡ None) → Serves disk (serving_at server) [] }
+    ensures serves { Served server.site (tree_of files.old) files.new.calls net.new.game.trace }
+    ensures last { FinishFits result net.new.last }
+    ensures over { result ≡ Finish.Over → events_left net.new.game.left ≡ 0 }
+    ensures later { IsLater net.old net.new }
+{
+    let mut server = server;
+    let finish = run(&mut server, net, files);
+    server.close(files);
+    finish
+}
+
+fn print_conf<X: Texts, S: Sink>(alloc: Global, conf: &str, texts: &mut X, sink: &mut S) -> Status
+    ensures line { IsOfLine result }
+    ensures texts { X.tells → PrintSays result (X.texts texts.old conf.now) }
+    ensures asks { X.tells → PrintAsks result conf.now (X.calls texts.old) (X.calls texts.new) }
+    ensures faults { FaultsSay result (X.faults texts.old) (X.faults texts.new) (S.faults sink.old) (S.faults sink.new) }
+    ensures complete { X.tells → (tree : Tree) → HasTree (X.texts texts.old conf.now) tree → IsComplete result }
+    ensures prints { S.tells → X.tells → (tree : Tree) → HasTree (X.texts texts.old conf.now) tree → SinkSays result (printed tree) (S.bytes sink.old) (S.bytes sink.new) }
+{
+    let tree = match read_tree(alloc, texts, conf) {
+        Ok(tree) => tree,
+        Err(status) => return status,
+    };
+    let Ok(text) = print(alloc, &tree) else {
+        return Status::NoMemory;
+    };
+    match write_all(sink, text.bytes()) {
+        Ok(()) => Status::Done,
+        Err(_) => Status::SinkFault,
+    }
+}

@@ -1,0 +1,109 @@
+//! How a call of the program ends: its status, the exit number, and the text on standard error.
+ghost use Rattle.std.specs.Prelude.{◌≡◌, Some};
+ghost use Rattle.lt_commands.specs.Exits.{exit_number, kind_number, status_text};
+
+use std::fmt;
+
+/// What can be wrong with a configuration. Its number is the variant's.
+#[derive(Clone, Copy, Debug, PartialEq, Eq)]
+pub enum ConfKind {
+    NotUtf8 = 1,
+    Grammar,
+    UnknownField,
+    Duplicate,
+    UnknownVariable,
+    Mixed,
+    Overflow,
+    WrongType,
+    BadValue,
+    PatternRefused,
+    IncludeMissing,
+    TextFault,
+    IncludeDeep,
+    TooLong,
+    TooMany,
+    NoRoot,
+    Deep,
+}
+
+/// The first fault of a configuration, with its place: files are numbered from 0 in the order in
+/// which they are read, lines from 1.
+#[derive(Clone, Copy, Debug, PartialEq, Eq)]
+pub struct ConfFault {
+    pub kind: ConfKind,
+    pub file: u32,
+    pub line: u32,
+}
+
+/// How a call ended.
+#[derive(Clone, Copy, Debug, PartialEq, Eq)]
+pub enum Status {
+    /// The work was done, and the output was written whole.
+    Done,
+    /// The configuration has this fault.
+    Conf(ConfFault),
+    /// The words are no line of this call.
+    Usage,
+    /// This line is the first that is wrong; line 0 says that the script is too long.
+    Script { line: u32 },
+    /// A named text cannot be read.
+    TextFault,
+    /// The output could not be written.
+    SinkFault,
+    /// Memory was wanted.
+    NoMemory,
+    /// There is no text of this name: text 1 is the configuration, text 2 the script.
+    Missing { text: u32 },
+}
+
+impl Status {
+    /// The number with which the program ends.
+    pub fn exit_number(self) -> u8
+        ensures { result ≡ exit_number self }
+    {
+        match self {
+            Status::Done => 0,
+            Status::Conf(_) => 1,
+            Status::Usage => 2,
+            Status::Script { .. } => 3,
+            Status::TextFault => 4,
+            Status::SinkFault => 5,
+            Status::NoMemory => 6,
+            Status::Missing { .. } => 7,
+        }
+    }
+}
+
+impl ConfKind {
+    pub fn number(self) -> u8
+        ensures { result ≡ kind_number self }
+    {
+        self as u8
+    }
+}
+
+/// The text on standard error; it is empty at `Done`.
+impl fmt::Display for Status {
+    ghost output = { λ status. Some (status_text status) };
+
+    fn fmt<W: fmt::Write>(&self, f: &mut fmt::Formatter<W>) -> fmt::Result {
+        match self {
+            Status::Done => Ok(()),
+            Status::Conf(fault) => {
+                let kind = fault.kind.number();
+                let file = fault.file;
+                let line = fault.line;
+                write!(f, "lighttpd: C{kind} file {file} line {line}")
+            }
+            Status::Usage => write!(
+                f,
+                "usage: lighttpd [-D] [-t | -p] -f CONF | replay -f CONF SCRIPT | bench NUMBER"
+            ),
+            Status::Script { line } => write!(f, "lighttpd: script line {line}"),
+            Status::TextFault => write!(f, "lighttpd: a text cannot be read"),
+            Status::SinkFault => write!(f, "lighttpd: output failed"),
+            Status::NoMemory => write!(f, "lighttpd: out of memory"),
+            Status::Missing { text } => write!(f, "lighttpd: text {text} is missing"),
+        }
+    }
+}
