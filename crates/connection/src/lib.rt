@@ -12,8 +12,6 @@ mod connection;
 mod looking;
 mod progress;
 mod stage;
-#[cfg(test)]
-mod tests;
 
 pub use connection::{Conn, INPUT_LIMIT};
 pub use stage::Stage;

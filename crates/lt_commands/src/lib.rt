@@ -18,8 +18,3 @@ mod words;
 pub use answering::answer;
 pub use commands::offline;
 pub use status::{ConfFault, ConfKind, Status};
-
-#[cfg(test)]
-mod serving_tests;
-#[cfg(test)]
-mod tests;

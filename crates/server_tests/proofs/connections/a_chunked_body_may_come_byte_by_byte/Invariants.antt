@@ -1,6 +1,6 @@
 use Rattle.std.proofs.Common.{length}
 use Rattle.buffer_pool.specs.Kept.{HeldWithin}
-use Rattle.connection.proofs.tests.a_head_may_come_byte_by_byte.Given as goal
+use Rattle.server_tests.proofs.connections.a_chunked_body_may_come_byte_by_byte.Given as goal
 
 abbrev pub invariant-loop-byte : goal.invariant-loop-byte
 invariant-loop-byte g l = HeldWithin l.store (length l.conn.numbers)

@@ -4,8 +4,8 @@ ghost use Rattle.buffer_pool.specs.Kept.{HeldWithin};
 ghost use Rattle.chunkqueue.specs.Items.{items_of, count_of, staged_of};
 ghost use Rattle.connection.specs.Connection.{file_number, IsBodyOf};
 
-use super::*;
 use chunkqueue::{Chunks, Queue, Store};
+use connection::{Conn, INPUT_LIMIT, Stage};
 use lt_world::{Address, Fault, FileId, Files, Found, Link, Opened, Owner};
 use std::alloc::Global;
 use std::process::Abort;
@@ -99,24 +99,21 @@ fn accepted(rt: &impl Abort, conn: &mut Conn, store: &mut Store, limit: u64)
     assert!(rt; accepted.is_ok());
 }
 
-/// The request is whole, and this is its content.
-fn carries(rt: &impl Abort, conn: &mut Conn, store: &mut Store, bytes: &[u8])
+/// The request is whole; its content has so many bytes, begins with these, and lies in buffers of a quarter more at most
+/// where it fills some.
+fn carries(rt: &impl Abort, conn: &mut Conn, store: &mut Store, size: u64, bytes: &[u8])
     requires { HeldWithin store.old (length conn.old.numbers) }
     ensures { HeldWithin store.new (length conn.new.numbers) }
 {
-    match conn.advance(store) {
-        Ok(Stage::Whole) => {}
-        _ => {
-            assert!(rt; false);
-            return;
-        }
-    }
+    stands(rt, conn, store, Stage::Whole);
     let mut content = Chunks::new();
     conn.take_body(store, &mut content);
     let mut shown = [0; 16];
     let n = content.peek(&mut shown);
+    let (buffers, held) = (content.nodes(), content.len());
     content.close(store);
-    assert!(rt; &shown[..n] == bytes);
+    assert!(rt; held == size && shown[..n].starts_with(bytes));
+    assert!(rt; buffers < 10_000 && (held < 4_096 || buffers * 4_096 <= held + held / 4));
 }
 
 /// Its request is this one, and names this path.
@@ -223,18 +220,6 @@ fn a_pipelined_pair_is_answered_in_turn(rt: HostRuntime) {
 }
 
 #[test]
-fn a_head_may_come_byte_by_byte(rt: HostRuntime) {
-    let (mut store, mut conn) = client(rt.alloc());
-    for byte in b"GET / HTTP/1.1\r\nHost: h\r\n\r\n" {
-        stands(&rt, &mut conn, &mut store, Stage::Waiting);
-        sent(&rt, &mut conn, &mut store, &[*byte]);
-    }
-    accepted(&rt, &mut conn, &mut store, 8);
-    stands(&rt, &mut conn, &mut store, Stage::Whole);
-    closed(&rt, conn, store, None);
-}
-
-#[test]
 fn a_head_without_an_end_is_refused_with_431(rt: HostRuntime) {
     let (mut store, mut conn) = client(rt.alloc());
     sent(&rt, &mut conn, &mut store, &[b'a'; 4_096]);
@@ -253,9 +238,17 @@ fn a_chunked_body_may_come_byte_by_byte(rt: HostRuntime) {
         &rt,
         &mut conn,
         &mut store,
-        b"POST /a HTTP/1.1\r\nHost: h\r\nTransfer-Encoding: chunked\r\n\r\n",
+        b"POST /a HTTP/1.1\r\nHost: h\r\nExpect: 100-continue\r\nTransfer-Encoding: chunked\r\n\r\n",
     );
     accepted(&rt, &mut conn, &mut store, 8);
+    stands(&rt, &mut conn, &mut store, Stage::Writing);
+    took(
+        &rt,
+        &mut conn,
+        &mut store,
+        b"HTTP/1.1 100 Continue\r\n\r\n",
+        None,
+    );
     for byte in b"5;x=1\r\nhello\r\n0\r\nT: 1\r\n\r\n" {
         stands(&rt, &mut conn, &mut store, Stage::Waiting);
         sent(&rt, &mut conn, &mut store, &[*byte]);
@@ -266,7 +259,7 @@ fn a_chunked_body_may_come_byte_by_byte(rt: HostRuntime) {
         &mut store,
         b"GET /b HTTP/1.1\r\nHost: h\r\n\r\n",
     );
-    carries(&rt, &mut conn, &mut store, b"hello");
+    carries(&rt, &mut conn, &mut store, 5, b"hello");
     answered(&rt, &mut conn, &mut store, false);
     took(&rt, &mut conn, &mut store, b"head", None);
     accepted(&rt, &mut conn, &mut store, 8);
@@ -274,111 +267,52 @@ fn a_chunked_body_may_come_byte_by_byte(rt: HostRuntime) {
     closed(&rt, conn, store, None);
 }
 
-#[test]
-fn a_client_that_waits_is_told_to_go_on(rt: HostRuntime) {
-    let (mut store, mut conn) = client(rt.alloc());
-    sent(
-        &rt,
-        &mut conn,
-        &mut store,
-        b"PUT /a HTTP/1.1\r\nHost: h\r\nExpect: 100-continue\r\nContent-Length: 2\r\n\r\n",
-    );
-    accepted(&rt, &mut conn, &mut store, 2);
-    stands(&rt, &mut conn, &mut store, Stage::Writing);
-    took(
-        &rt,
-        &mut conn,
-        &mut store,
-        b"HTTP/1.1 100 Continue\r\n\r\n",
-        None,
-    );
-    stands(&rt, &mut conn, &mut store, Stage::Waiting);
-    sent(&rt, &mut conn, &mut store, b"hi");
-    carries(&rt, &mut conn, &mut store, b"hi");
-    closed(&rt, conn, store, None);
+/// A client that sends this for `/a`, and whose body may have so many bytes, stands so; one that is refused is asked for
+/// no more, and is owed nothing yet.
+fn stands_after(rt: &impl Abort, alloc: Global, bytes: &[u8], limit: u64, stage: Stage) {
+    let (mut store, mut conn) = client(alloc);
+    sent(rt, &mut conn, &mut store, bytes);
+    accepted(rt, &mut conn, &mut store, limit);
+    stands(rt, &mut conn, &mut store, stage);
+    asks(rt, &conn, 0, b"/a");
+    assert!(rt; stage == Stage::Whole || (conn.room() == 0 && !conn.owes()));
+    closed(rt, conn, store, None);
 }
 
 #[test]
-fn a_body_above_the_limit_is_refused_with_413(rt: HostRuntime) {
-    let (mut store, mut conn) = client(rt.alloc());
-    sent(
+fn a_body_is_taken_or_refused_with_its_status(rt: HostRuntime) {
+    let alloc = rt.alloc();
+    stands_after(
         &rt,
-        &mut conn,
-        &mut store,
-        b"PUT /a HTTP/1.1\r\nHost: h\r\nExpect: 100-continue\r\nContent-Length: 2\r\n\r\n",
-    );
-    accepted(&rt, &mut conn, &mut store, 1);
-    stands(&rt, &mut conn, &mut store, Stage::Refused(413));
-    asks(&rt, &conn, 0, b"/a");
-    assert!(&rt; conn.room() == 0 && !conn.owes());
-    closed(&rt, conn, store, None);
-}
-
-#[test]
-fn a_bad_chunk_is_refused_with_400(rt: HostRuntime) {
-    let (mut store, mut conn) = client(rt.alloc());
-    sent(
-        &rt,
-        &mut conn,
-        &mut store,
-        b"POST /a HTTP/1.1\r\nHost: h\r\nTransfer-Encoding: chunked\r\n\r\nx",
-    );
-    accepted(&rt, &mut conn, &mut store, 8);
-    stands(&rt, &mut conn, &mut store, Stage::Refused(400));
-    closed(&rt, conn, store, None);
-}
-
-#[test]
-fn a_body_of_no_bytes_is_taken(rt: HostRuntime) {
-    let (mut store, mut conn) = client(rt.alloc());
-    sent(
-        &rt,
-        &mut conn,
-        &mut store,
+        alloc,
         b"PUT /a HTTP/1.1\r\nHost: h\r\nContent-Length: 0\r\n\r\n",
+        8,
+        Stage::Whole,
     );
-    accepted(&rt, &mut conn, &mut store, 8);
-    stands(&rt, &mut conn, &mut store, Stage::Whole);
-    closed(&rt, conn, store, None);
-}
-
-#[test]
-fn so_many_bytes_are_held(rt: HostRuntime) {
-    let (mut store, mut conn) = client(rt.alloc());
-    sent(
+    stands_after(
         &rt,
-        &mut conn,
-        &mut store,
-        b"GET / HTTP/1.1\r\nHost: h\r\n\r\n",
+        alloc,
+        b"PUT /a HTTP/1.1\r\nHost: h\r\nExpect: 100-continue\r\nContent-Length: 2\r\n\r\n",
+        1,
+        Stage::Refused(413),
     );
-    accepted(&rt, &mut conn, &mut store, 8);
-    stands(&rt, &mut conn, &mut store, Stage::Whole);
-    for _ in 0..15 {
-        sent(&rt, &mut conn, &mut store, &[b'a'; 4_096]);
-    }
-    assert!(&rt; conn.room() == 4_096);
-    sent(&rt, &mut conn, &mut store, &[b'a'; 4_096]);
-    assert!(&rt; conn.room() == 0);
-    closed(&rt, conn, store, None);
+    stands_after(
+        &rt,
+        alloc,
+        b"POST /a HTTP/1.1\r\nHost: h\r\nTransfer-Encoding: chunked\r\n\r\nx",
+        8,
+        Stage::Refused(400),
+    );
 }
 
-// The content has so many bytes, and lies in buffers of a quarter more at most.
-fn carries_densely(rt: &impl Abort, conn: &mut Conn, store: &mut Store, size: u64)
+/// So often 4,096 bytes are sent.
+fn poured(rt: &impl Abort, conn: &mut Conn, store: &mut Store, times: u32)
     requires { HeldWithin store.old (length conn.old.numbers) }
     ensures { HeldWithin store.new (length conn.new.numbers) }
 {
-    match conn.advance(store) {
-        Ok(Stage::Whole) => {}
-        _ => {
-            assert!(rt; false);
-            return;
-        }
+    for _ in 0..times {
+        sent(rt, conn, store, &[b'a'; 4_096]);
     }
-    let mut content = Chunks::new();
-    conn.take_body(store, &mut content);
-    let (buffers, held) = (content.nodes(), content.len());
-    content.close(store);
-    assert!(rt; held == size && buffers < 10_000 && buffers * 4_096 <= held + held / 4);
 }
 
 #[test]
@@ -398,21 +332,19 @@ fn reads_go_on_once_the_bytes_that_are_held_are_taken(rt: HostRuntime) {
         &mut store,
         b"POST / HTTP/1.1\r\nHost: h\r\nContent-Length: 69632\r\n\r\n",
     );
-    for _ in 0..15 {
-        sent(&rt, &mut conn, &mut store, &[b'a'; 4_096]);
-    }
-    let left = conn.room();
-    assert!(&rt; left < 4_096);
-    sent(&rt, &mut conn, &mut store, &[b'a'; 4_096][..left]);
+    poured(&rt, &mut conn, &mut store, 15);
+    // The head that waits has 51 bytes.
+    assert!(&rt; conn.room() == 4_045);
+    sent(&rt, &mut conn, &mut store, &[b'a'; 4_045]);
     assert!(&rt; conn.room() == 0);
     answered(&rt, &mut conn, &mut store, false);
     took(&rt, &mut conn, &mut store, b"head", None);
     accepted(&rt, &mut conn, &mut store, 69_632);
     stands(&rt, &mut conn, &mut store, Stage::Waiting);
     assert!(&rt; conn.room() == INPUT_LIMIT);
-    sent(&rt, &mut conn, &mut store, &[b'a'; 4_096]);
-    sent(&rt, &mut conn, &mut store, &[b'a'; 4_096][left..]);
-    carries_densely(&rt, &mut conn, &mut store, 69_632);
+    poured(&rt, &mut conn, &mut store, 1);
+    sent(&rt, &mut conn, &mut store, &[b'a'; 51]);
+    carries(&rt, &mut conn, &mut store, 69_632, b"aaaa");
     closed(&rt, conn, store, None);
 }
 

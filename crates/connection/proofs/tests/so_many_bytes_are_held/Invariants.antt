@@ -1,6 +1,0 @@
-use Rattle.std.proofs.Common.{length}
-use Rattle.buffer_pool.specs.Kept.{HeldWithin}
-use Rattle.connection.proofs.tests.so_many_bytes_are_held.Given as goal
-
-abbrev pub invariant-loop : goal.invariant-loop
-invariant-loop g l = HeldWithin l.store (length l.conn.numbers)
