@@ -16,6 +16,3 @@ mod stepping;
 pub use encoding::{encode_begin, encode_header};
 pub use kinds::{BEGIN_REQUEST, END_REQUEST, PARAMS, STDERR, STDIN, STDOUT};
 pub use reader::{Reader, ReaderState, RecordFault};
-
-#[cfg(test)]
-mod tests;

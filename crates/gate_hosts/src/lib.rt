@@ -7,6 +7,3 @@ mod choosing;
 pub mod laws;
 
 pub use choosing::{Policy, choose};
-
-#[cfg(test)]
-mod tests;

@@ -16,8 +16,6 @@ mod lines;
 mod options;
 mod refusal;
 mod scan;
-#[cfg(test)]
-mod tests;
 
 pub use ends::{HeadEnd, head_end};
 pub use fields::read_fields;

@@ -13,6 +13,3 @@ mod reply;
 pub use fields::Fields;
 pub use phrases::phrase;
 pub use reply::{Spelling, error_reply, reply_head};
-
-#[cfg(test)]
-mod tests;

@@ -8,8 +8,6 @@
 pub mod laws;
 mod path;
 mod read;
-#[cfg(test)]
-mod tests;
 
 pub use path::normal;
 pub use read::{Target, TargetRefusal, authority, read_target};

@@ -21,6 +21,3 @@ pub use numbers::{Number, read_decimal, read_hex};
 pub use quoting::{ByteText, quoted};
 pub use text::Text;
 pub use words::{lower, same_word, trim};
-
-#[cfg(test)]
-mod tests;

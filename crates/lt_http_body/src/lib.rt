@@ -16,6 +16,3 @@ mod trailer;
 pub use body::{Body, BodyRefusal, BodyState};
 pub use http_head::Framing;
 pub use limits::{EXTENSION_LIMIT, SIZE_DIGITS, TRAILER_LIMIT};
-
-#[cfg(test)]
-mod tests;

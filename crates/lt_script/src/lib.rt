@@ -17,6 +17,3 @@ pub use limits::SCRIPT_LIMIT;
 pub use parse::parse_script;
 pub use printing::print_script;
 pub use script::{Name, Script, ScriptError, ScriptFile, Step};
-
-#[cfg(test)]
-mod tests;

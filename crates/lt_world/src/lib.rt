@@ -30,6 +30,3 @@ pub use net::{Address, Dialled, Ending, Event, Got, Link, Net, NextKind, Owner, 
 pub use streams::{Sink, Source};
 pub use texts::{Fetch, FetchKind, Fetched, Texts};
 pub use waits::Waits;
-
-#[cfg(test)]
-mod tests;

@@ -8,8 +8,6 @@
 
 mod answer;
 mod asking;
-#[cfg(test)]
-mod asking_tests;
 mod content;
 mod heads;
 pub mod laws;
@@ -17,8 +15,6 @@ mod limits;
 mod progress;
 mod refusal;
 mod stage;
-#[cfg(test)]
-mod tests;
 
 pub use answer::AnswerReader;
 pub use asking::ask;

@@ -18,6 +18,3 @@ mod writing;
 
 pub use net::{ScriptNet, report};
 pub use writing::write_all;
-
-#[cfg(test)]
-mod tests;

@@ -1,5 +1,0 @@
-use Rattle.buffer_pool.specs.Kept.{HeldWithin}
-use Rattle.fcgi_records.proofs.tests.a_record_of_any_other_type_is_refused.Given as goal
-
-abbrev pub invariant-loop-kind : goal.invariant-loop-kind
-invariant-loop-kind g l = HeldWithin l.store 0
