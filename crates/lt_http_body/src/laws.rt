@@ -4,10 +4,18 @@ ghost use Rattle.http_head.specs.declared.framing.Framing.TheVariants.{Length, C
 ghost use Rattle.lt_http_body.specs.declared.body.BodyState.TheVariants.{NeedMore, Done};
 ghost use Rattle.lt_http_body.specs.declared.body.BodyRefusal.TheVariants.{BadChunk, TooLarge};
 ghost use Rattle.lt_http_body.specs.declared.standing.Standing.{Standing};
+ghost use Rattle.lt_http_body.specs.declared.limits.TheConstants.{SIZE_DIGITS, EXTENSION_LIMIT, TRAILER_LIMIT};
 ghost use Rattle.lt_http_body.specs.Standings.{limit_of, is_above};
 ghost use Rattle.lt_http_body.specs.Reading.{standing_after, data_in, taken_in};
 ghost use Rattle.lt_http_body.specs.Grammar.{Chunk, ChunkedBody, IsChunkedBody, print, data_of, Fits};
 ghost use Rattle.lt_http_body.specs.Laws.{answer_of, body_of, size_of, Spells, Begins, Exceeds};
+
+/// The size of a chunk has at most 15 digits, its extensions 256 bytes, and the trailer 8,192.
+pub fn the_limits_are_numbers()
+    ensures size { SIZE_DIGITS ≡ 15 }
+    ensures extension { EXTENSION_LIMIT ≡ 256 }
+    ensures trailer { TRAILER_LIMIT ≡ 8192 }
+{}
 
 /// A body that the grammar spells is read: its data, and no byte behind it.
 pub fn what_is_spelled_is_read()

@@ -4,6 +4,7 @@ ghost use Rattle.httparse.specs.Grammar.{ResponseHead, ReadsResponse};
 ghost use Rattle.lt_http_body.specs.declared.standing.Standing.{Standing};
 ghost use Rattle.lt_http_body.specs.Reading.{standing_after, data_in};
 ghost use Rattle.cgi_text.specs.Request.{ip_text, parts_of};
+ghost use Rattle.proxy_message.specs.declared.limits.TheConstants.{BODY_LIMIT};
 ghost use Rattle.proxy_message.specs.declared.progress.Progress.{Progress};
 ghost use Rattle.proxy_message.specs.declared.stage.Stage.TheVariants.{Framed, ToEnd};
 ghost use Rattle.proxy_message.specs.Responses.{read_response};
@@ -13,6 +14,11 @@ ghost use Rattle.proxy_message.specs.Asking.{ask_of};
 ghost use Rattle.proxy_message.specs.Bounds.{ask_limit};
 
 use cgi_text::GateRequest;
+
+/// The body of an answer has at most 4,194,304 bytes.
+pub fn the_limit_is_a_number()
+    ensures { BODY_LIMIT ≡ 4194304 }
+{}
 
 /// The function over the bytes reads just the head of a response that the grammar reads.
 pub fn the_grammar_is_read()
