@@ -49,12 +49,12 @@ kept_moved p g h long same = record {
   total = omega (arith, long);
 }
 
--- a number that becomes free behind the others
-pub kept_given : (p : PoolState) (n : ℕ) → Kept p (n ∷ []) (record p { free = p.free ++ n ∷ [] }) []
+-- a number that becomes free, to be taken next
+pub kept_given : (p : PoolState) (n : ℕ) → Kept p (n ∷ []) (record p { free = n ∷ p.free }) []
 kept_given p n = record {
   rises = omega arith;
-  counts = λ m. grind (arith, places_append m p.free (n ∷ []));
-  total = omega (arith, length-append p.free (n ∷ []));
+  counts = λ m. grind arith;
+  total = omega arith;
 }
 
 -- what a call keeps of the condition on spare and held chunks

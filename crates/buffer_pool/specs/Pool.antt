@@ -17,7 +17,7 @@ grown p k = record p { free = p.free ++ numbers_from p.made k; made = p.made + k
 abbrev pub GrowsBelow : PoolState → PoolState → ℕ → Type 0
 GrowsBelow old new n = (k : ℕ) × (k < n) × (new ≡ grown old k)
 
--- the node that has been free longest; where none is free a new one, with the next number, if there is memory and that number is below 2^64 - 1
+-- the node that is first of those that are free; where none is free a new one, with the next number, if there is memory and that number is below 2^64 - 1
 abbrev pub takes_from : List ℕ → PoolState → Result ChunkState NoMemory → PoolState → Type 0
 takes_from [] old result new = MatchResult result (λ c. (c ≡ blank old.made) × (old.made + 1 < 2 ^ 64) × (new ≡ record old { made = old.made + 1 })) (λ _. new ≡ old)
 takes_from (n ∷ rest) old result new = (result ≡ Ok (blank n)) × (new ≡ record old { free = rest })

@@ -72,9 +72,10 @@ impl Pool {
         self.filled = self.filled.saturating_add(n as u64);
     }
 
-    /// A chunk of kind `Bytes` that holds nothing: the node that has been free longest, and a new one where none is free.
+    /// A chunk of kind `Bytes` that holds nothing: the node that was given back last, whose memory is warm, and a new one where
+    /// none is free.
     pub fn take(&mut self) -> Result<Chunk, NoMemory>
-        ensures oldest { Takes self.old result self.new }
+        ensures newest { Takes self.old result self.new }
         ensures spare { 0 < length self.old.free → IsOk result }
         ensures kept { IfOk result (λ c. Kept self.old [] self.new (c.number ∷ [])) }
     {
@@ -119,14 +120,14 @@ impl Pool {
         Ok(())
     }
 
-    /// Takes a chunk back. It is free from now on, behind those that are free already.
+    /// Takes a chunk back. It is free from now on, and is taken next.
     #[tactic(auto, using(crate::proofs::Keeping::length_numbers))]
     pub fn give(&mut self, chunk: Chunk)
         requires lent { length self.old.free < self.old.made }
-        ensures pool { self.new ≡ record self.old { free = self.old.free ++ chunk.number ∷ [] } }
+        ensures pool { self.new ≡ record self.old { free = chunk.number ∷ self.old.free } }
         ensures kept { Kept self.old (chunk.number ∷ []) self.new [] }
     {
-        self.free.push_back(chunk);
+        self.free.push_front(chunk);
     }
 
     /// Frees the nodes that are free, and ends the pool.

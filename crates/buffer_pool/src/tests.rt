@@ -2,7 +2,7 @@ use crate::{BUFFER_SIZE, Chunk, ChunkList, Kind, Pool};
 use std::process::Abort;
 
 #[test]
-fn the_oldest_free_number_comes_again(rt: HostRuntime) {
+fn the_number_given_back_last_comes_again(rt: HostRuntime) {
     let mut pool = Pool::new(rt.alloc());
     let first = taken(&rt, &mut pool);
     let second = taken(&rt, &mut pool);
@@ -12,9 +12,9 @@ fn the_oldest_free_number_comes_again(rt: HostRuntime) {
     assert_eq!(rt; (again.number(), pool.made(), pool.spare()), (0, 2, 0));
     give_back(&rt, &mut pool, second);
     give_back(&rt, &mut pool, again);
-    let older = taken(&rt, &mut pool);
-    assert_eq!(rt; (older.number(), pool.made(), pool.spare()), (1, 2, 1));
-    give_back(&rt, &mut pool, older);
+    let newest = taken(&rt, &mut pool);
+    assert_eq!(rt; (newest.number(), pool.made(), pool.spare()), (0, 2, 1));
+    give_back(&rt, &mut pool, newest);
     pool.close();
 }
 

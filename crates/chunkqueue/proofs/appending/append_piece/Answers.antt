@@ -9,7 +9,7 @@ pub returns-clause-gains : goal.returns-clause-gains
 returns-clause-gains c =
     piece_as c.args.chunks.now c.fill_back.new.chunks c.push_back.new.self c.in-Ok.chunk c.put.new.self c.args.piece.now c.requires.kept c.requires.some c.requires.most
     c.if-fill_back.ensures.same.0 c.if-fill_back.ensures.apart
-    (taken_blank c.fill_back.new.pool.free c.fill_back.new.pool c.take.new.self c.in-Ok.chunk c.in-Ok.ensures.oldest) c.put.ensures.chunk c.push_back.ensures.list
+    (taken_blank c.fill_back.new.pool.free c.fill_back.new.pool c.take.new.self c.in-Ok.chunk c.in-Ok.ensures.newest) c.put.ensures.chunk c.push_back.ensures.list
 
 pub returns-clause-kept : goal.returns-clause-kept
 returns-clause-kept c =

@@ -10,7 +10,7 @@ use Rattle.chunkqueue.proofs.appending.append_range.Goals as goal
 
 pub returns-in-Ok-clause-gains : goal.returns-in-Ok-clause-gains
 returns-in-Ok-clause-gains c =
-    let taken = taken_blank c.args.pool.now.free c.args.pool.now c.take.new.self c.in-Ok.chunk c.in-Ok.ensures.oldest in
+    let taken = taken_blank c.args.pool.now.free c.args.pool.now c.take.new.self c.in-Ok.chunk c.in-Ok.ensures.newest in
     let made : c.set_file.new.self ≡ as_file (blank c.in-Ok.chunk.number) c.args.file c.args.start c.args.len
     = c.set_file.ensures.chunk ∙ ap (λ (x : ChunkState). as_file x c.args.file c.args.start c.args.len) taken in
     let all = c.push_back.ensures.list ∙ ap (λ (x : ChunkState). c.args.chunks.now ++ x ∷ []) made in

@@ -7,4 +7,4 @@ pub returns-clause-kept : goal.returns-clause-kept
 returns-clause-kept c =
     let before = c.self.inside in
     let old : PoolState = record { free = numbers before.free; made = before.made; filled = before.filled } in
-    rw (← c.self.view_is) (rw c.push_back.ensures.numbers (kept_given old c.args.chunk.number))
+    rw (← c.self.view_is) (rw c.push_front.ensures (kept_given old c.args.chunk.number))
