@@ -1,5 +1,5 @@
 -- What the calls of a pooled queue make of its chunks.
-use Rattle.std.proofs.Common.{◌≡◌, ℕ, ◌+◌, ◌*◌, ◌/◌, ◌^◌, ◌≤◌, ◌<◌, List, [], ◌∷◌, length, arith, ap, sym, ◌∙◌, refl, subst}
+use Rattle.std.proofs.Common.{◌≡◌, ℕ, ◌+◌, ◌*◌, ◌/◌, ◌^◌, ◌≤◌, ◌<◌, List, [], ◌∷◌, ◌++◌, length, flat_map, arith, ap, sym, ◌∙◌, refl, subst}
 use Rattle.std.proofs.lemmas.List.{length-append}
 use Rattle.lt_world.specs.Disk.{Disk}
 use Rattle.buffer_pool.specs.State.{ChunkState}
@@ -8,7 +8,7 @@ use Rattle.buffer_pool.specs.declared.buffer.Kind.{Kind}
 use Rattle.buffer_pool.specs.declared.buffer.Kind.TheVariants.{Bytes, File}
 use Rattle.chunkqueue.specs.Items.{Item, Contents, range, items_of, count_of, staged_of, front_of, memory_front, Leads, AllLie, Shows}
 use Rattle.chunkqueue.specs.Plain.{chunk_of, chunks_of, plain, front_of_segments, memory_before, segments_unstaged, first_staged, staged_by, FirstLies}
-use Rattle.chunkqueue.specs.Pooled.{segment_from, segments_of, pooled, weight_from, weight_of, AllPaired, AreKept, IsPooled, Gains, items_of_chunks, memory_in, ranges_in, IsDense}
+use Rattle.chunkqueue.specs.Pooled.{segment_from, segments_of, slices_from, slices_before, pooled, weight_from, weight_of, AllPaired, AreKept, IsPooled, Gains, items_of_chunks, memory_in, ranges_in, IsDense}
 use Rattle.chunkqueue.proofs.Calls.{front-fits, leads, peeked}
 use Rattle.chunkqueue.proofs.Following.{length-segments_of}
 use Rattle.chunkqueue.proofs.Leaving.{as_plain}
@@ -70,6 +70,19 @@ pooled_shows disk q l next len view had lies same is shown =
 -- bytes in memory before any range
 pub pooled_peeked : (q : Contents) (l : List ChunkState) (len : ℕ) → pooled l ≡ q → IsPooled l len → memory_before (segments_of l) ≡ memory_front (items_of q)
 pooled_peeked q l len view had = peeked (plain (segments_of l)) (segments_of l) len refl (as_plain l len had) ∙ ap (λ (c : Contents). memory_front (items_of c)) view
+
+slice_joined : (k : Kind) (bytes : List ℕ) (cs : List ChunkState) → flat_map (λ (slice : List ℕ). slice) (slices_before cs) ≡ memory_before (segments_of cs)
+    → flat_map (λ (slice : List ℕ). slice) (slices_from k bytes (slices_before cs)) ≡ memory_before (segment_from k bytes ∷ segments_of cs)
+slice_joined Bytes bytes cs is = ap (λ (rest : List ℕ). bytes ++ rest) is
+slice_joined (File file start len) bytes cs is = refl
+
+slices_joined : (l : List ChunkState) → flat_map (λ (slice : List ℕ). slice) (slices_before l) ≡ memory_before (segments_of l)
+slices_joined [] = refl
+slices_joined (c ∷ cs) = slice_joined c.kind c.bytes cs (slices_joined cs)
+
+-- the same, in the slices in which they lie
+pub pooled_slices : (q : Contents) (l : List ChunkState) (len : ℕ) → pooled l ≡ q → IsPooled l len → flat_map (λ (slice : List ℕ). slice) (slices_before l) ≡ memory_front (items_of q)
+pooled_slices q l len view had = slices_joined l ∙ pooled_peeked q l len view had
 
 -- how many bytes in memory and how many ranges there are
 memory_of : List ChunkState → ℕ

@@ -23,6 +23,16 @@ segment_of c = segment_from c.kind c.bytes
 abbrev pub segments_of : List ChunkState → List Segment
 segments_of = map segment_of
 
+-- what is before the first range: a chunk's bytes, and what is in the chunks behind it
+abbrev pub slices_from : Kind → List ℕ → List (List ℕ) → List (List ℕ)
+slices_from Bytes bytes slices = bytes ∷ slices
+slices_from (File file start len) bytes slices = []
+
+-- the bytes of the chunks in memory before any range, a list each
+abbrev pub slices_before : List ChunkState → List (List ℕ)
+slices_before [] = []
+slices_before (c ∷ cs) = slices_from c.kind c.bytes (slices_before cs)
+
 -- what a queue of these chunks holds, and the numbers of their nodes
 abbrev pub pooled : List ChunkState → Contents
 pooled chunks = record { chunks = chunks_of (segments_of chunks); numbers = numbers chunks }

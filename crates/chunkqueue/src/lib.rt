@@ -18,6 +18,7 @@ mod pooled;
 mod queue;
 mod reading;
 mod segment;
+mod slices;
 mod splitting;
 mod stealing;
 mod store;
@@ -27,6 +28,7 @@ pub use merging::MERGE_SIZE;
 pub use plain::PlainQueue;
 pub use pooled::ChunkQueue;
 pub use queue::Queue;
+pub use slices::Slices;
 pub use store::PlainStore;
 
 /// The queue that the server works with.

@@ -1,5 +1,6 @@
 //! A queue over pooled buffers.
-ghost use Rattle.std.specs.Prelude.{◌≡◌, length};
+ghost use Rattle.std.specs.Prelude.{◌≡◌, length, flat_map};
+ghost use Rattle.chunkqueue.specs.Items.{items_of, memory_front};
 ghost use Rattle.chunkqueue.specs.Pooled.{IsDense};
 
 use crate::advancing::{drop_from, empty};
@@ -8,6 +9,7 @@ use crate::joining::append_chunks;
 use crate::looking::{front_of, peek_into};
 use crate::queue::Queue;
 use crate::reading::stage_front;
+use crate::slices::Slices;
 use crate::splitting::steal_chunks;
 use buffer_pool::{ChunkList, Pool};
 use lt_bytes::NoMemory;
@@ -40,6 +42,13 @@ impl ChunkQueue {
         ensures dense { IsDense self.now }
     {
         self.chunks.len()
+    }
+
+    /// The bytes in memory that stand before any range, in the slices in which they lie. None is copied.
+    pub fn slices(&self) -> Slices<'_>
+        ensures bytes { flat_map (λ slice. slice) result ≡ memory_front (items_of self.now) }
+    {
+        Slices::of(&self.chunks)
     }
 }
 
