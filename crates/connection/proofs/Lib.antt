@@ -2,6 +2,8 @@ pub mod Memory
 pub mod Buffers
 pub mod Heads
 pub mod Rests
+pub mod Slicing
+pub mod Offering
 pub mod Feeding
 pub mod Replying
 pub mod Fronts

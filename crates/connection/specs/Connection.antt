@@ -1,16 +1,26 @@
 -- What a connection is to its callers.
-use Rattle.std.specs.Prelude.{◌≡◌, ℕ, List, [], ◌∷◌, true, Option, Some, None}
+use Rattle.std.specs.Prelude.{◌≡◌, ℕ, List, [], ◌∷◌, length, true, Option, Some, None}
 use Rattle.lt_world.specs.declared.files.FileId.{FileId}
-use Rattle.chunkqueue.specs.Items.{Item, Byte, FileByte}
+use Rattle.chunkqueue.specs.Items.{Item, Byte, FileByte, Contents, items_of, front_of, staging_of}
 use Rattle.server_model.specs.Request.{Head, Request, Unfinished, Refused, Open, Declined, Complete}
 use Rattle.server_model.specs.Held.{Stage, Awaiting, Heading, Taking, Asking, Answering, Held}
 use Rattle.server_model.specs.Steps.{is_in_memory}
 
--- what is held for the client, what can leave its queue now, and the numbers of the buffers that it holds
+-- what is held for the client, what can leave its queue now, how many bytes the next write offers, and the numbers of the buffers that it holds
 pub record Connected : Type 0 where
   pub held : Held
   pub front : List ℕ
+  pub offers : ℕ
   pub numbers : List ℕ
+
+-- how many bytes a queue of these items offers to a write: all unread bytes of the chunk in memory that stands first, or all that is staged of a range once it is staged
+abbrev pub offers_by : List Item → Contents → ℕ
+offers_by [] queue = length (front_of queue)
+offers_by (Byte b ∷ items) queue = length (front_of queue)
+offers_by (FileByte file at ∷ items) queue = staging_of queue
+
+abbrev pub offers_of : Contents → ℕ
+offers_of queue = offers_by (items_of queue) queue
 
 abbrev pub file_number : Option FileId → Option ℕ
 file_number None = None

@@ -7,7 +7,7 @@ use Rattle.server_model.specs.Request.{Refused, Declined, Complete}
 use Rattle.server_model.specs.Client.{input_limit}
 use Rattle.server_model.specs.Held as model
 use Rattle.server_model.specs.Steps.{is_in_memory}
-use Rattle.connection.specs.Connection.{Connected, file_number}
+use Rattle.connection.specs.Connection.{Connected, file_number, offers_of}
 use Rattle.connection.specs.declared.progress.Progress.{Progress}
 use Rattle.connection.specs.declared.progress.Progress.TheVariants as progress
 use Rattle.connection.specs.declared.connection.Conn.TheInside.{Inside}
@@ -36,6 +36,7 @@ connected_of c = record {
     ended = c.ended;
   };
   front = front_of c.output;
+  offers = offers_of c.output;
   numbers = c.input.numbers ++ (c.body.numbers ++ c.output.numbers);
 }
 

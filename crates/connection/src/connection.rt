@@ -1,10 +1,12 @@
 //! A connection and its calls.
-ghost use Rattle.std.specs.Prelude.{◌≡◌, ◌+◌, ◌-◌, ◌*◌, ◌^◌, ◌≤◌, ◌<◌, ◌++◌, [], drop, length, map, None, Some, true, false, nat_lt, option_map, if◌then◌else◌, IsOk, IfOk, OnOk, OnErr};
+ghost use Rattle.std.specs.Prelude.{◌≡◌, ℕ, ◌+◌, ◌-◌, ◌*◌, ◌^◌, ◌≤◌, ◌<◌, ◌++◌, [], drop, length, map, None, Some, true, false, nat_lt, option_map, if◌then◌else◌, IsOk, IfOk, OnOk, OnErr};
 ghost use Rattle.buffer_pool.specs.Kept.{Kept, HeldWithin};
 ghost use Rattle.lt_world.specs.Causes.{Rose};
 ghost use Rattle.chunkqueue.specs.Items.{Byte, Leads, Shows, AllLie, empty, items_of, count_of, staged_of};
 ghost use Rattle.server_model.specs.Steps.{arrived, received, received_end, advanced, looked, looks, accepted, answered, holding, wrote, staged, has_no_items, number_of, is_read_at, room_of};
 ghost use Rattle.http_head.specs.Scan.{IsScan};
+ghost use Rattle.http_head.specs.Ends.{head_end};
+ghost use Rattle.http_head.specs.declared.ends.HeadEnd.TheVariants.{At};
 ghost use Rattle.connection.specs.Connection.{file_number, head_at, content_at, without_content, IsHeldUp, IsBodyOf};
 ghost use Rattle.connection.specs.Stages.{stage_of, is_heading, is_taking, is_whole, is_asking, feeds, next_number};
 
@@ -120,12 +122,21 @@ impl Conn {
         }
     }
 
-    /// Takes what was read.
+    /// How many buffers are held, found by a walk over the queues.
+    pub fn nodes(&self) -> u64
+        requires countable { length self.now.numbers < 2 ^ 64 }
+        ensures nodes { result ≡ length self.now.numbers }
+    {
+        self.input.nodes() + self.body.nodes() + self.output.nodes()
+    }
+
+    /// Takes what was read. With a spare buffer for each 4,096 bytes it cannot fail.
     pub fn got(&mut self, store: &mut Store, bytes: &[u8]) -> Result<(), NoMemory>
         requires counted { HeldWithin store.old (length self.old.numbers) }
         requires room { length bytes.now ≤ room_of self.old.held }
         ensures ok { OnOk result (self.new.held ≡ received self.old.held bytes.now) }
         ensures err { OnErr result (self.new.held ≡ self.old.held) }
+        ensures spare { length bytes.now ≤ BUFFER_SIZE * length store.old.free → IsOk result }
         ensures filled { store.new.filled ≤ store.old.filled + length bytes.now }
         ensures kept { Kept store.old self.old.numbers store.new self.new.numbers }
     {
@@ -147,7 +158,7 @@ impl Conn {
 
     /// Takes the next step that the bytes which came allow, and answers what is to be done. A head is taken up once all
     /// replies before it were taken, and the bytes of its body as they come. Without memory nothing changes, but that some of
-    /// a body may be read.
+    /// a body may be read. Memory is wanted for a head only where it is whole.
     #[tactic(auto, using(crate::proofs::Feeding::idle))]
     pub fn advance(&mut self, store: &mut Store) -> Result<Stage, NoMemory>
         requires counted { HeldWithin store.old (length self.old.numbers) }
@@ -155,6 +166,7 @@ impl Conn {
         ensures stage { IfOk result (λ stage. stage ≡ stage_of self.new.held) }
         ensures err { OnErr result (IsHeldUp self.old.held self.new.held × (looks self.old.held ≡ true)) }
         ensures exact { OnErr result (is_taking self.old.held.stage ≡ false → self.new ≡ self.old) }
+        ensures wants { OnErr result (is_taking self.old.held.stage ≡ false → (n : ℕ) × (head_end self.old.held.input ≡ At n)) }
         // A byte is put into a buffer once at most as it leaves the input.
         ensures filled { store.new.filled + length self.new.held.input ≤ store.old.filled + length self.old.held.input }
         ensures within { length self.old.held.input ≤ INPUT_LIMIT }
@@ -268,6 +280,7 @@ impl Conn {
         ensures ok { OnOk result (self.new.held ≡ looked number self.old.held) }
         ensures stage { IfOk result (λ stage. stage ≡ stage_of self.new.held) }
         ensures err { OnErr result (self.new ≡ self.old) }
+        ensures wants { OnErr result ((n : ℕ) × (head_end self.old.held.input ≡ At n)) }
         ensures filled { store.new.filled + length self.new.held.input ≤ store.old.filled + length self.old.held.input }
         ensures kept { Kept store.old self.old.numbers store.new self.new.numbers }
     {
@@ -374,6 +387,7 @@ impl Conn {
         ensures shows { OnOk result (F.tells → Shows (F.disk files.old).table self.old.held.owed self.old.held.staged →
             Shows (F.disk files.old).table self.old.held.owed self.new.held.staged) }
         ensures ready { OnOk result (0 < length self.old.held.owed → 0 < length self.new.front) }
+        ensures offers { OnOk result (length self.new.front ≡ self.old.offers) }
         ensures err { OnErr result (self.new.held ≡ self.old.held) }
         ensures cause { OnErr result (Rose (F.faults files.old) (F.faults files.new)) }
         ensures owner { OnErr result (F.tells → F.failed_read files.new ≡ Some (record { conn = self.old.held.link; request = number_of self.old.held.stage })) }
@@ -388,7 +402,7 @@ impl Conn {
         self.output.stage(store, files, owner)
     }
 
-    /// What one write may offer.
+    /// What one write may offer: all unread bytes of the first chunk, or all that is staged of its range.
     pub fn offer(&self) -> &[u8]
         ensures front { result.now ≡ self.now.front }
         ensures leads { Leads self.now.held.owed self.now.held.staged result.now }

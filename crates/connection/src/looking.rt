@@ -1,8 +1,9 @@
 //! Looking for a head at the front of what came.
-ghost use Rattle.std.specs.Prelude.{◌≡◌, ◌≤◌, length, take, drop, true, IfOk};
+ghost use Rattle.std.specs.Prelude.{◌≡◌, ◌≤◌, ℕ, length, take, drop, true, IfOk, OnErr};
 ghost use Rattle.buffer_pool.specs.Kept.{Kept, HeldWithin};
 ghost use Rattle.chunkqueue.specs.Items.{items_of, count_of, memory_front};
 ghost use Rattle.http_head.specs.declared.limits.TheConstants.{HEAD_LIMIT};
+ghost use Rattle.http_head.specs.declared.ends.HeadEnd.TheVariants.{At};
 ghost use Rattle.http_head.specs.Ends.{head_end, IsWithin};
 ghost use Rattle.http_head.specs.Scan.{IsScan};
 ghost use Rattle.http_head.specs.Head.{head_of};
@@ -13,8 +14,8 @@ ghost use Rattle.connection.specs.Looking.{looked_by, taken_in, progress_of, IsL
 
 use crate::progress::Progress;
 use chunkqueue::{Chunks, Queue, Store};
-use http_head::{Framing, HEAD_LIMIT, HeadEnd, HeadRefusal, HeadScan, Request, read_head};
-use lt_bytes::NoMemory;
+use http_head::{Framing, HeadEnd, HeadRefusal, HeadScan, Request, read_head};
+use lt_bytes::{NoMemory, Text};
 use std::alloc::Global;
 
 /// What stands at the front of what came.
@@ -98,45 +99,49 @@ fn judged(alloc: Global, head: &[u8]) -> Result<Looked, NoMemory>
     }
 }
 
-/// What was seen of all that came.
+/// What was seen of all that came, where it lies, as far as the head tells its end.
 pub(crate) fn scanned(input: &Chunks) -> HeadScan
-    requires memory { is_in_memory (items_of input.now) ≡ true }
     ensures scan { IsScan (memory_front (items_of input.now)) result }
 {
-    let front = input.front_bytes();
-    let scan = HeadScan::new().see(front);
-    if front.len() as u64 == input.len() {
-        return scan;
+    let mut scan = HeadScan::new();
+    for slice in input.slices() {
+        scan = scan.see(slice);
+        let HeadEnd::NotYet = scan.end() else {
+            return scan;
+        };
     }
-    match scan.end() {
-        HeadEnd::At(_) => scan,
-        HeadEnd::NotYet | HeadEnd::TooLarge => scanned_behind(input),
-    }
+    scan
 }
 
-// The same where the head stands in several chunks.
-fn scanned_behind(input: &Chunks) -> HeadScan
-    ensures scan { IsScan (memory_front (items_of input.now)) result }
+// The first `n` bytes, one after another, where they lie in several chunks.
+fn gathered(alloc: Global, input: &Chunks, n: usize) -> Result<Text, NoMemory>
+    requires within { n ≤ length (memory_front (items_of input.now)) }
+    ensures { IfOk result (λ text. text ≡ take n (memory_front (items_of input.now))) }
 {
-    let mut bytes = [0; HEAD_LIMIT];
-    let count = input.peek(&mut bytes);
-    HeadScan::new().see(&bytes[..count])
+    let mut text = Text::with_capacity(alloc, n)?;
+    for slice in input.slices() {
+        let left = n - text.len();
+        if left <= slice.len() {
+            text.push_all(&slice[..left])?;
+            return Ok(text);
+        }
+        text.push_all(slice)?;
+    }
+    Ok(text)
 }
 
 // What a head of so many bytes asks for. Mostly the first chunk has it, and nothing is copied.
 fn headed(alloc: Global, input: &Chunks, n: usize) -> Result<Looked, NoMemory>
     requires memory { is_in_memory (items_of input.now) ≡ true }
     requires within { n ≤ length (memory_front (items_of input.now)) }
-    requires most { n ≤ HEAD_LIMIT }
     ensures found { IfOk result (λ found. found ≡ looked_by n (head_of (take n (memory_front (items_of input.now))))) }
 {
     let front = input.front_bytes();
     if n <= front.len() {
         return judged(alloc, &front[..n]);
     }
-    let mut bytes = [0; HEAD_LIMIT];
-    input.peek(&mut bytes);
-    judged(alloc, &bytes[..n])
+    let head = gathered(alloc, input, n)?;
+    judged(alloc, head.bytes())
 }
 
 /// What the head says that ends there, of what came. Nothing of it is taken.
@@ -145,6 +150,8 @@ pub(crate) fn look(alloc: Global, input: &Chunks, end: HeadEnd) -> Result<Looked
     requires end { end ≡ head_end (memory_front (items_of input.now)) }
     requires within { IsWithin (length (memory_front (items_of input.now))) end }
     ensures looked { IfOk result (IsLooked (memory_front (items_of input.now))) }
+    // Memory is wanted only for a head that is whole.
+    ensures wants { OnErr result ((n : ℕ) × (end ≡ At n)) }
 {
     match end {
         HeadEnd::NotYet => Ok(Looked::Unfinished),

@@ -1,8 +1,7 @@
-use Rattle.std.proofs.Common.{◌≡◌, ℕ, List, take, arith}
-use Rattle.http_head.specs.declared.limits.TheConstants.{HEAD_LIMIT}
+use Rattle.std.proofs.Common.{◌≡◌, ℕ, List, take, ◌∙◌, arith}
 use Rattle.chunkqueue.specs.Items.{memory_front, items_of, staged_of}
 use Rattle.connection.proofs.Fronts.{first_part}
-use Rattle.connection.proofs.Heads.{headed_by, peeked_part}
+use Rattle.connection.proofs.Heads.{headed_by}
 use Rattle.connection.proofs.looking.headed.Goals as goal
 
 pub returns-then-n-front : goal.returns-then-n-front
@@ -13,8 +12,4 @@ returns-then-n-front c =
     record { found = headed_by bytes _ c.args.n c.judged.result part c.requires.within c.judged.ensures }
 
 pub returns : goal.returns
-returns c =
-    let bytes : List ℕ = memory_front (items_of c.args.input.now) in
-    let part : take c.args.n c.peek.new.buf ≡ take c.args.n bytes =
-    peeked_part c.peek.new.buf bytes c.args.n c.peek.result HEAD_LIMIT c.peek.ensures.count c.peek.ensures.bytes c.requires.most c.requires.within in
-    record { found = headed_by bytes _ c.args.n c.judged-2.result part c.requires.within c.judged-2.ensures }
+returns c = record { found = headed_by (memory_front (items_of c.args.input.now)) _ c.args.n c.judged-2.result (c.bytes.ensures.value ∙ c.in_ok-head.ensures) c.requires.within c.judged-2.ensures }

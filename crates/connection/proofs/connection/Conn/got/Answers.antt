@@ -25,6 +25,7 @@ pub returns-in_default : goal.returns-in_default
 returns-in_default c = record {
   ok = got_held (connected_of c.self.inside).held c.args.self.now.held c.self.inside.input c.push_bytes.new.self c.args.bytes.now c.in_ok-push_bytes.ensures.ok c.self.invariant.memory refl (ap (λ (x : Connected). x.held) c.self.view_is);
   err = tt;
+  spare = λ fits. refl;
   filled = c.push_bytes.ensures.filled;
   kept = first_kept c.args.store.now c.push_bytes.new.store c.args.self.now.numbers c.self.inside.input.numbers c.self.inside.body.numbers c.self.inside.output.numbers c.push_bytes.new.self.numbers
       (ap (λ (x : Connected). x.numbers) c.self.view_is) c.push_bytes.ensures.kept;

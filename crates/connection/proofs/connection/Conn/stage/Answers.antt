@@ -1,6 +1,9 @@
-use Rattle.std.proofs.Common.{ap}
+use Rattle.std.proofs.Common.{◌≡◌, length, ap, subst}
+use Rattle.std.specs.Prelude.{OnOk}
+use Rattle.chunkqueue.specs.Items.{front_of}
 use Rattle.connection.specs.Connection.{Connected}
 use Rattle.connection.proofs.Buffers.{third_kept}
+use Rattle.connection.proofs.Offering.{offered_on}
 use Rattle.connection.proofs.Rests.{staged_within, rests_same}
 use Rattle.connection.proofs.connection.Conn.stage.Goals as goal
 
@@ -19,3 +22,8 @@ invariant_of-self g c = record {
 pub returns-clause-kept : goal.returns-clause-kept
 returns-clause-kept g c =
     third_kept c.args.store.now c.stage.new.store c.args.self.now.numbers c.self.inside.input.numbers c.self.inside.body.numbers c.self.inside.output.numbers c.stage.new.self.numbers (ap (λ (x : Connected). x.numbers) c.self.view_is) c.stage.ensures.kept
+
+pub returns-clause-offers : goal.returns-clause-offers
+returns-clause-offers g c =
+    subst (λ (x : Connected). OnOk c.stage.result (length (front_of c.stage.new.self) ≡ x.offers)) c.self.view_is
+    (offered_on c.stage.result c.self.inside.output c.stage.new.self c.stage.ensures.items c.stage.ensures.staged (λ idle. (c.stage.ensures.idle idle).1))
