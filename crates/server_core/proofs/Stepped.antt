@@ -6,7 +6,7 @@ use Rattle.lt_world.specs.declared.net.Ending.TheVariants as ending
 use Rattle.lt_world.specs.declared.net.Owner.{Owner}
 use Rattle.lt_world.specs.Causes.{Rose}
 use Rattle.lt_world.specs.Disk.{Disk, Table}
-use Rattle.lt_world.specs.Trace.{Act, Entry, Writing, Wrote, NotYet, Failed, said}
+use Rattle.lt_world.specs.Trace.{Act, Entry, Writing, Readable, Writable, Wrote, NotYet, Failed, said}
 use Rattle.chunkqueue.specs.Items.{Item, Byte, FileByte, AllLie, Leads, Shows}
 use Rattle.server_model.specs.Site.{Site}
 use Rattle.server_model.specs.Deeds.{Ours, told}
@@ -14,14 +14,16 @@ use Rattle.server_model.specs.Held.{Stage, Awaiting, Heading, Taking, Asking, An
 use Rattle.server_model.specs.Steps.{number_of, took, wrote, staged, without_file, looks, has_no_items, room_of, wants_read}
 use Rattle.server_model.specs.Files.{AllFit, Fits, Drops}
 use Rattle.server_model.specs.Serves.{IsWaitingAt, Stands}
-use Rattle.server_model.specs.Due.{DueWrite, offer_limit}
-use Rattle.server_model.specs.Turns.{Seen, ReadFailed, GoesBy}
+use Rattle.server_model.specs.Due.{DueRead, DueWrite, offer_limit}
+use Rattle.server_model.specs.Turns.{Seen, ReadFailed, NoReadFailed, DueOn, GoesBy}
 use Rattle.server_model.specs.Settling.{SettlesTo}
 use Rattle.server_model.proofs.FileSteps.{drop_fits}
 use Rattle.server_model.proofs.SettleSteps.{settle_more}
 use Rattle.server_model.proofs.Stepping.{same_goes}
 use Rattle.server_model.proofs.WriteSteps.{write_not_yet, write_failed, write_faults, write_then, staged_then}
-use Rattle.server_core.specs.Steps.{is_idle, IsFreeAt, IsFree, IsResting, done_file}
+use Rattle.server_core.specs.declared.step.Ready.{Ready}
+use Rattle.server_core.specs.declared.step.Ready.TheVariants as ready
+use Rattle.server_core.specs.Steps.{is_idle, IsFreeAt, IsFree, IsResting, FailsFor, done_file, event_of}
 
 -- what is told of a link
 pub tells_at : (l m : ℕ) (act : Act) (old now : List Entry) → l ≡ m → now ≡ said l (act ∷ []) old → now ≡ told m (Ours act ∷ []) old
@@ -63,6 +65,18 @@ fit_lie table file (FileByte from at ∷ items) fit = (fit.1, fit_lie table file
 pub fault_later : (client number : ℕ) (before later : Seen) (faults : ℕ) (failed_read : Option Owner) → Rose before.faults faults → failed_read ≡ Some (record { conn = client; request = number })
     → faults ≤ later.faults → later.failed_read ≡ failed_read → ReadFailed client number before later
 fault_later client number before later faults failed_read rose owner more same = record { rose = omega (arith, rose, more); owner = record { conn = client; request = number }; is = same ∙ owner; conn = refl; request = refl }
+
+-- a read is what is due for a link that is ready so, since it touches no file, and so is a write
+module _ (r : Ready) where
+  pub read_due : r ≡ ready.Reading → (link : ℕ) (before later : Seen) (site : Site) (held new : Held) (net files : Type 0) (disk after : Disk) (old now : List Entry) (result : Option Ending) → (files → NoReadFailed before later)
+      → GoesBy Stands DueRead site held new result net files disk after old now → GoesBy Stands (DueOn (event_of r) before later link) site held new result net files disk after old now
+  read_due reading link before later site held new net files disk after old now result sound goes = subst (λ (t : Ready). GoesBy Stands (DueOn (event_of t) before later link) site held new result net files disk after old now) (sym reading)
+      (same_goes Stands DueRead (DueOn Readable before later link) site held new net files disk disk after old now (λ f was world past all due open_now. (sound f, due)) (λ f. refl) result goes)
+
+  pub write_due : r ≡ ready.Writing → (link : ℕ) (before later : Seen) (site : Site) (held new : Held) (net files : Type 0) (disk after : Disk) (old now : List Entry) (result : Option Ending)
+      → GoesBy Stands (DueWrite (NoReadFailed before later) (FailsFor link before later)) site held new result net files disk after old now → GoesBy Stands (DueOn (event_of r) before later link) site held new result net files disk after old now
+  write_due writing link before later site held new net files disk after old now result goes = subst (λ (t : Ready). GoesBy Stands (DueOn (event_of t) before later link) site held new result net files disk after old now) (sym writing)
+      (same_goes Stands (DueWrite (NoReadFailed before later) (FailsFor link before later)) (DueOn Writable before later link) site held new net files disk disk after old now (λ f was world past all due open_now. due) (λ f. refl) result goes)
 
 -- a fault of the file
 pub faults_goes : (sound : Type 0) (failed : ℕ → Type 0) (site : Site) (held new : Held) (net files : Type 0) (before after : Disk) (old : List Entry) → 0 < length held.owed → (files → failed (number_of held.stage)) → new ≡ held → (files → after ≡ before)

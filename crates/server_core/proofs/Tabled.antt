@@ -14,12 +14,14 @@ use Rattle.server_model.specs.Held.{Held, IsPlace, kept_at}
 use Rattle.server_model.specs.Steps.{arrived}
 use Rattle.server_model.specs.Files.{Backs, Drops, IsTable}
 use Rattle.server_model.specs.Serves.{Stands}
-use Rattle.server_model.specs.Turns.{Seen, StepsBy, TurnsOn}
+use Rattle.server_model.specs.Turns.{Seen, DueOn, StepsBy, TurnsOn}
 use Rattle.server_model.proofs.Changing.{Changes, table_on}
 use Rattle.server_model.proofs.Requests.{front_of_nil}
-use Rattle.server_model.proofs.Turning.{IsReady, IsSound, IsDue, turn_step, backs_step}
+use Rattle.server_model.proofs.Turning.{IsReady, turn_step, backs_step, readable_ready, writable_ready, IsQuiet, readable_quiet, writable_quiet}
 use Rattle.connection.specs.Connection.{Connected}
-use Rattle.server_core.specs.Steps.{IsResting}
+use Rattle.server_core.specs.declared.step.Ready.{Ready}
+use Rattle.server_core.specs.declared.step.Ready.TheVariants as ready
+use Rattle.server_core.specs.Steps.{IsResting, event_of}
 use Rattle.server_core.specs.Table.{helds, serving, held_count, Rising, AllResting, IsKept}
 use Rattle.server_core.proofs.Listed.{helds_append, count_append, rising_push, resting_push}
 
@@ -33,14 +35,23 @@ none_as link conns other is none = ap (λ (t : List Connected). kept_at link (he
 pub close_told : (l m : ℕ) (e : Ending) (old now : List Entry) → l ≡ m → now ≡ said l (Close e ∷ []) old → now ≡ told m (Ours (Close e) ∷ []) old
 close_told l m e old now same is = is ∙ ap (λ (n : ℕ). said n (Close e ∷ []) old) same
 
-module _ (event : Act) (due : Seen → Seen → ℕ → World → World → List Deed → List Deed → Type 0) (ready : IsReady event) (is_due : IsDue event due)
+-- that a link is ready is no deed, and nothing is due for one that isn't kept
+pub is_ready : (r : Ready) → IsReady (event_of r)
+is_ready ready.Reading = readable_ready
+is_ready ready.Writing = writable_ready
+
+pub is_quiet : (r : Ready) → IsQuiet (event_of r)
+is_quiet ready.Reading = readable_quiet
+is_quiet ready.Writing = writable_quiet
+
+module _ (event : Act) (ready : IsReady event)
     (link : ℕ) (site : Site) (conns next : List Connected) (held : Held) (now : Option Held) (net files : Type 0) (before after : Seen) (old told_now : List Entry)
     (here : held.link ≡ link) (kept : kept_at link (helds conns) ≡ Some held) (change : Changes link (helds conns) (helds next) now) (backs : files → Backs before.disk.table (helds conns))
-    (step : StepsBy Stands (due before after held.link) site held now net files before.disk after.disk old told_now) where
-  pub conns_turn : before.faults ≤ after.faults → (files → IsSound event before after) → TurnsOn event link (serving site conns) (serving site next) net files before after old told_now
-  conns_turn rises sound =
+    (step : StepsBy Stands (DueOn event before after held.link) site held now net files before.disk after.disk old told_now) where
+  pub conns_turn : before.faults ≤ after.faults → TurnsOn event link (serving site conns) (serving site next) net files before after old told_now
+  conns_turn rises =
       let P : ℕ → Type 0 = λ l. (kept_at l (helds conns) ≡ Some held) → Changes l (helds conns) (helds next) now → TurnsOn event l (serving site conns) (serving site next) net files before after old told_now in
-      subst P here (λ k ch. turn_step event due ready is_due site (helds conns) (helds next) held now net files before after old told_now k ch backs step rises sound) kept change
+      subst P here (λ k ch. turn_step event ready site (helds conns) (helds next) held now net files before after old told_now k ch backs step rises) kept change
 
   pub conns_backs : files → Backs after.disk.table (helds next)
   conns_backs f =

@@ -4,11 +4,14 @@ use Rattle.lt_world.specs.declared.net.Ending.{Ending}
 use Rattle.lt_world.specs.declared.net.Ending.TheVariants as ending
 use Rattle.lt_world.specs.declared.net.Owner.{Owner}
 use Rattle.lt_world.specs.Disk.{Disk}
+use Rattle.lt_world.specs.Trace.{Act, Readable, Writable}
 use Rattle.chunkqueue.specs.Items.{Item}
 use Rattle.server_model.specs.Held.{Stage, Awaiting, Heading, Taking, Asking, Answering, Held}
 use Rattle.server_model.specs.Serves.{IsWaiting}
 use Rattle.server_model.specs.Steps.{advanced, answered, holding, has_no_items}
 use Rattle.server_model.specs.Turns.{Seen, ReadFailed}
+use Rattle.server_core.specs.declared.step.Ready.{Ready}
+use Rattle.server_core.specs.declared.step.Ready.TheVariants as ready
 
 -- no head waits for the limit of its body, and no request for its reply
 abbrev pub is_idle : Stage → Bool
@@ -60,3 +63,8 @@ seen_as disk faults failed_read = record { disk = disk; faults = faults; failed_
 -- a read failed for request k of a client
 abbrev pub FailsFor : ℕ → Seen → Seen → ℕ → Type 0
 FailsFor client before after k = ReadFailed client k before after
+
+-- the event of a link that is ready so
+abbrev pub event_of : Ready → Act
+event_of ready.Reading = Readable
+event_of ready.Writing = Writable

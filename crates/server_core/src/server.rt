@@ -14,8 +14,8 @@ ghost use Rattle.server_core.specs.Turns.{Turned, OnRest, KindFits, Uses};
 use crate::client::Client;
 use crate::replies::Replies;
 use crate::site::Site;
-use crate::step::release;
-use crate::table::{Arrival, accept_on, read_on, write_on};
+use crate::step::{Ready, release};
+use crate::table::{Arrival, accept_on, step_on};
 use crate::turn::Turn;
 use chunkqueue::{BUFFER_SIZE, Store};
 use lt_bytes::{NoMemory, Text};
@@ -112,7 +112,7 @@ impl Server {
                 Turn::Did
             }
             Event::Readable(link) => {
-                read_on(
+                step_on(
                     &mut self.clients,
                     &self.site,
                     &mut self.store,
@@ -120,17 +120,20 @@ impl Server {
                     net,
                     files,
                     link,
+                    Ready::Reading,
                 );
                 Turn::Did
             }
             Event::Writable(link) => {
-                write_on(
+                step_on(
                     &mut self.clients,
                     &self.site,
                     &mut self.store,
+                    &mut self.scratch,
                     net,
                     files,
                     link,
+                    Ready::Writing,
                 );
                 Turn::Did
             }
@@ -167,7 +170,6 @@ fn give_back<F: Files>(clients: &mut Vec<Client>, store: &mut Store, files: &mut
     requires { HeldWithin store.old (held_count clients.old.items) }
     ensures empty { clients.new.items ≡ [] }
     ensures disk { F.tells → F.disk files.new ≡ all_freed (helds clients.old.items) (F.disk files.old) }
-    ensures faults { F.faults files.old ≤ F.faults files.new }
     ensures failed_read { F.tells → F.failed_read files.new ≡ F.failed_read files.old }
     ensures later { F.later files.old files.new }
 {

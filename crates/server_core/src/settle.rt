@@ -53,7 +53,6 @@ pub(crate) fn settle<F: Files>(
     ensures waits { WaitsOn result conn.new.held }
     ensures filled { store.new.filled ≤ store.old.filled + SETTLE_FILL }
     ensures kept { Kept store.old conn.old.numbers store.new conn.new.numbers }
-    ensures faults { F.faults files.old ≤ F.faults files.new }
     ensures failed_read { F.tells → F.failed_read files.new ≡ F.failed_read files.old }
     ensures later { F.later files.old files.new }
 {
@@ -82,7 +81,6 @@ fn read_body<F: Files>(
     ensures waits { WaitsOn result conn.new.held }
     ensures filled { store.new.filled ≤ store.old.filled + length conn.old.held.input + 25 + REPLY_FILL }
     ensures kept { Kept store.old conn.old.numbers store.new conn.new.numbers }
-    ensures faults { F.faults files.old ≤ F.faults files.new }
     ensures failed_read { F.tells → F.failed_read files.new ≡ F.failed_read files.old }
     ensures later { F.later files.old files.new }
 {
@@ -115,7 +113,6 @@ fn go_on<F: Files>(
     ensures waits { WaitsOn result conn.new.held }
     ensures filled { store.new.filled ≤ store.old.filled + REPLY_FILL }
     ensures kept { Kept store.old conn.old.numbers store.new conn.new.numbers }
-    ensures faults { F.faults files.old ≤ F.faults files.new }
     ensures failed_read { F.tells → F.failed_read files.new ≡ F.failed_read files.old }
     ensures later { F.later files.old files.new }
 {
@@ -150,7 +147,6 @@ fn respond<F: Files>(
     ensures waits { WaitsOn result conn.new.held }
     ensures filled { store.new.filled ≤ store.old.filled + REPLY_FILL }
     ensures kept { Kept store.old conn.old.numbers store.new conn.new.numbers }
-    ensures faults { F.faults files.old ≤ F.faults files.new }
     ensures failed_read { F.tells → F.failed_read files.new ≡ F.failed_read files.old }
     ensures later { F.later files.old files.new }
 {
@@ -187,7 +183,6 @@ fn serve<F: Files>(
     ensures waits { WaitsOn result conn.new.held }
     ensures filled { store.new.filled ≤ store.old.filled + REPLY_FILL }
     ensures kept { Kept store.old conn.old.numbers store.new conn.new.numbers }
-    ensures faults { F.faults files.old ≤ F.faults files.new }
     ensures failed_read { F.tells → F.failed_read files.new ≡ F.failed_read files.old }
     ensures later { F.later files.old files.new }
 {
@@ -247,7 +242,6 @@ fn send_file<F: Files>(
     ensures waits { WaitsOn result conn.new.held }
     ensures filled { store.new.filled ≤ store.old.filled + REPLY_FILL }
     ensures kept { Kept store.old conn.old.numbers store.new conn.new.numbers }
-    ensures faults { F.faults files.old ≤ F.faults files.new }
     ensures failed_read { F.tells → F.failed_read files.new ≡ F.failed_read files.old }
     ensures later { F.later files.old files.new }
 {

@@ -5,10 +5,10 @@ ghost use Rattle.lt_world.specs.Trace.{Close, said};
 ghost use Rattle.server_model.specs.Files.{Drops, Fits};
 ghost use Rattle.server_model.specs.Serves.{Stands};
 ghost use Rattle.server_model.specs.Due.{DueRead, DueWrite};
-ghost use Rattle.server_model.specs.Turns.{Seen, NoReadFailed, GoesBy};
+ghost use Rattle.server_model.specs.Turns.{Seen, NoReadFailed, DueOn, GoesBy};
 ghost use Rattle.server_model.specs.Steps.{room_of, wants_read, wrote};
 ghost use Rattle.server_core.specs.Served.{served};
-ghost use Rattle.server_core.specs.Steps.{IsResting, WaitsOn, FailsFor, done_file, seen_as};
+ghost use Rattle.server_core.specs.Steps.{IsResting, WaitsOn, FailsFor, done_file, event_of, seen_as};
 
 use crate::settle::settle;
 use crate::site::Site;
@@ -26,7 +26,6 @@ pub(crate) fn release<F: Files>(conn: Conn, store: &mut Store, files: &mut F)
     ensures drops { F.tells → Drops conn.held.file (F.disk files.old) (F.disk files.new) }
     ensures filled { store.new.filled ≡ store.old.filled }
     ensures kept { Kept store.old conn.numbers store.new [] }
-    ensures faults { F.faults files.old ≤ F.faults files.new }
     ensures failed_read { F.tells → F.failed_read files.new ≡ F.failed_read files.old }
     ensures later { F.later files.old files.new }
 {
@@ -51,13 +50,9 @@ pub(crate) fn finish<N: Net, F: Files>(
     ensures drops { F.tells → Drops conn.held.file (F.disk files.old) (F.disk files.new) }
     ensures filled { store.new.filled ≡ store.old.filled }
     ensures kept { Kept store.old conn.numbers store.new [] }
-    ensures net_faults { N.faults net.old ≤ N.faults net.new }
-    ensures wait_faults { N.wait_faults net.new ≡ N.wait_faults net.old }
     ensures links { N.links net.new ≡ N.links net.old }
     ensures last { N.last net.new ≡ N.last net.old }
-    ensures left { N.ends → N.left net.new ≤ N.left net.old }
     ensures net_later { N.later net.old net.new }
-    ensures faults { F.faults files.old ≤ F.faults files.new }
     ensures failed_read { F.tells → F.failed_read files.new ≡ F.failed_read files.old }
     ensures later { F.later files.old files.new }
 {
@@ -65,8 +60,51 @@ pub(crate) fn finish<N: Net, F: Files>(
     release(conn, store, files);
 }
 
-/// Reads once where a read is wanted, and does what follows. Answers how the client is to be closed, where it is.
-pub(crate) fn read_for<N: Net, F: Files>(
+/// Which way a client's link is ready.
+#[derive(Clone, Copy)]
+pub(crate) enum Ready {
+    Reading,
+    Writing,
+}
+
+/// One read or one write, as the link is ready, and what follows. Answers how the client is to be closed, where it is.
+pub(crate) fn step_for<N: Net, F: Files>(
+    conn: &mut Conn,
+    site: &Site,
+    store: &mut Store,
+    scratch: &mut [u8; BUFFER_SIZE],
+    net: &mut N,
+    files: &mut F,
+    ready: Ready,
+) -> Option<Ending>
+    requires calls { 1 < N.calls net.old }
+    requires room { BUFFER_SIZE ≤ N.room net.old }
+    requires known { conn.old.held.link < N.links net.old }
+    requires counted { HeldWithin store.old (length conn.old.numbers) }
+    requires resting { IsResting conn.old.held }
+    requires fits { F.tells → Fits (F.disk files.old).table conn.old.held }
+    // What is seen later tells of a failed read too.
+    ensures goes { (later : Seen) → F.faults files.new ≤ later.faults → (F.tells → later.failed_read ≡ F.failed_read files.new) →
+        GoesBy Stands (DueOn (event_of ready) (seen_as (F.disk files.old) (F.faults files.old) (F.failed_read files.old)) later conn.old.held.link)
+        (served site.now) conn.old.held conn.new.held result N.tells F.tells (F.disk files.old) (F.disk files.new) (N.trace net.old) (N.trace net.new) }
+    ensures link { conn.new.held.link ≡ conn.old.held.link }
+    ensures waits { WaitsOn result conn.new.held }
+    ensures filled { store.new.filled ≤ store.old.filled + TURN_FILL }
+    ensures kept { Kept store.old conn.old.numbers store.new conn.new.numbers }
+    ensures calls { 0 < N.calls net.new }
+    ensures links { N.links net.new ≡ N.links net.old }
+    ensures last { N.last net.new ≡ N.last net.old }
+    ensures net_later { N.later net.old net.new }
+    ensures later { F.later files.old files.new }
+{
+    match ready {
+        Ready::Reading => read_for(conn, site, store, scratch, net, files),
+        Ready::Writing => write_for(conn, site, store, net, files),
+    }
+}
+
+// Reads once where a read is wanted, and does what follows. Answers how the client is to be closed, where it is.
+fn read_for<N: Net, F: Files>(
     conn: &mut Conn,
     site: &Site,
     store: &mut Store,
@@ -87,13 +125,9 @@ pub(crate) fn read_for<N: Net, F: Files>(
     ensures filled { store.new.filled ≤ store.old.filled + TURN_FILL }
     ensures kept { Kept store.old conn.old.numbers store.new conn.new.numbers }
     ensures calls { 0 < N.calls net.new }
-    ensures net_faults { N.faults net.old ≤ N.faults net.new }
-    ensures wait_faults { N.wait_faults net.new ≡ N.wait_faults net.old }
     ensures links { N.links net.new ≡ N.links net.old }
     ensures last { N.last net.new ≡ N.last net.old }
-    ensures left { N.ends → N.left net.new ≤ N.left net.old }
     ensures net_later { N.later net.old net.new }
-    ensures faults { F.faults files.old ≤ F.faults files.new }
     ensures failed_read { F.tells → F.failed_read files.new ≡ F.failed_read files.old }
     ensures later { F.later files.old files.new }
 {
@@ -137,13 +171,9 @@ fn receive<N: Net, F: Files>(
     ensures filled { store.new.filled ≤ store.old.filled + TURN_FILL }
     ensures kept { Kept store.old conn.old.numbers store.new conn.new.numbers }
     ensures calls { 0 < N.calls net.new }
-    ensures net_faults { N.faults net.old ≤ N.faults net.new }
-    ensures wait_faults { N.wait_faults net.new ≡ N.wait_faults net.old }
     ensures links { N.links net.new ≡ N.links net.old }
     ensures last { N.last net.new ≡ N.last net.old }
-    ensures left { N.ends → N.left net.new ≤ N.left net.old }
     ensures net_later { N.later net.old net.new }
-    ensures faults { F.faults files.old ≤ F.faults files.new }
     ensures failed_read { F.tells → F.failed_read files.new ≡ F.failed_read files.old }
     ensures later { F.later files.old files.new }
 {
@@ -163,8 +193,8 @@ fn receive<N: Net, F: Files>(
     }
 }
 
-/// Offers once what is owed, and does what follows. Answers how the client is to be closed, where it is.
-pub(crate) fn write_for<N: Net, F: Files>(
+// Offers once what is owed, and does what follows. Answers how the client is to be closed, where it is.
+fn write_for<N: Net, F: Files>(
     conn: &mut Conn,
     site: &Site,
     store: &mut Store,
@@ -186,13 +216,9 @@ pub(crate) fn write_for<N: Net, F: Files>(
     ensures filled { store.new.filled ≤ store.old.filled + TURN_FILL }
     ensures kept { Kept store.old conn.old.numbers store.new conn.new.numbers }
     ensures calls { 0 < N.calls net.new }
-    ensures net_faults { N.faults net.old ≤ N.faults net.new }
-    ensures wait_faults { N.wait_faults net.new ≡ N.wait_faults net.old }
     ensures links { N.links net.new ≡ N.links net.old }
     ensures last { N.last net.new ≡ N.last net.old }
-    ensures left { N.ends → N.left net.new ≤ N.left net.old }
     ensures net_later { N.later net.old net.new }
-    ensures faults { F.faults files.old ≤ F.faults files.new }
     ensures later { F.later files.old files.new }
 {
     if !conn.owes() {
@@ -219,7 +245,6 @@ fn wrote<F: Files>(conn: &mut Conn, store: &mut Store, files: &mut F, n: usize)
     ensures drops { F.tells → Drops (done_file conn.old.held n) (F.disk files.old) (F.disk files.new) }
     ensures filled { store.new.filled ≡ store.old.filled }
     ensures kept { Kept store.old conn.old.numbers store.new conn.new.numbers }
-    ensures faults { F.faults files.old ≤ F.faults files.new }
     ensures failed_read { F.tells → F.failed_read files.new ≡ F.failed_read files.old }
     ensures later { F.later files.old files.new }
 {

@@ -1,16 +1,16 @@
 //! The table of clients, in the order of their links, and what each event of a link does in it.
 ghost use Rattle.std.specs.Prelude.{◌≡◌, ◌+◌, ◌≤◌, ◌<◌};
-ghost use Rattle.lt_world.specs.Trace.{Accepted, Readable, Writable};
+ghost use Rattle.lt_world.specs.Trace.{Accepted};
 ghost use Rattle.server_model.specs.Held.{IsPlace};
 ghost use Rattle.server_model.specs.Files.{IsTable, Backs};
 ghost use Rattle.server_model.specs.Turns.{TurnsOn};
 ghost use Rattle.server_core.specs.Served.{served};
-ghost use Rattle.server_core.specs.Steps.{seen_as};
+ghost use Rattle.server_core.specs.Steps.{event_of, seen_as};
 ghost use Rattle.server_core.specs.Table.{helds, serving, Rising, IsKept};
 
 use crate::client::Client;
 use crate::site::Site;
-use crate::step::{TURN_FILL, finish, read_for, write_for};
+use crate::step::{Ready, TURN_FILL, finish, step_for};
 use chunkqueue::{BUFFER_SIZE, Store};
 use connection::Conn;
 use lt_world::{Address, Ending, Files, Link, Net};
@@ -69,10 +69,7 @@ pub(crate) fn accept_on<N: Net, F: Files>(
     ensures kept { IsKept store.new clients.new.items }
     ensures table { IsTable (N.links net.new) (helds clients.new.items) }
     ensures backs { F.tells → Backs (F.disk files.now).table (helds clients.new.items) }
-    ensures net_faults { N.faults net.old ≤ N.faults net.new }
-    ensures wait_faults { N.wait_faults net.new ≡ N.wait_faults net.old }
     ensures last { N.last net.new ≡ N.last net.old }
-    ensures left { N.ends → N.left net.new ≤ N.left net.old }
     ensures net_later { N.later net.old net.new }
 {
     let _ = files;
@@ -94,8 +91,8 @@ pub(crate) fn accept_on<N: Net, F: Files>(
     }
 }
 
-/// A client may be read from.
-pub(crate) fn read_on<N: Net, F: Files>(
+/// A client may be read from or written to.
+pub(crate) fn step_on<N: Net, F: Files>(
     clients: &mut Vec<Client>,
     site: &Site,
     store: &mut Store,
@@ -103,71 +100,29 @@ pub(crate) fn read_on<N: Net, F: Files>(
     net: &mut N,
     files: &mut F,
     link: Link,
+    ready: Ready,
 )
     requires calls { 1 < N.calls net.old }
     requires room { BUFFER_SIZE ≤ N.room net.old }
     requires known { link.0 < N.links net.old }
     requires kept { IsKept store.old clients.old.items }
     requires backs { F.tells → Backs (F.disk files.old).table (helds clients.old.items) }
-    ensures turn { TurnsOn Readable link.0 (serving (served site.now) clients.old.items) (serving (served site.now) clients.new.items) N.tells F.tells
+    ensures turn { TurnsOn (event_of ready) link.0 (serving (served site.now) clients.old.items) (serving (served site.now) clients.new.items) N.tells F.tells
         (seen_as (F.disk files.old) (F.faults files.old) (F.failed_read files.old)) (seen_as (F.disk files.new) (F.faults files.new) (F.failed_read files.new))
         (N.trace net.old) (N.trace net.new) }
     ensures filled { store.new.filled ≤ store.old.filled + TURN_FILL }
     ensures kept { IsKept store.new clients.new.items }
     ensures table { IsTable (N.links net.old) (helds clients.old.items) → IsTable (N.links net.new) (helds clients.new.items) }
     ensures backs { F.tells → Backs (F.disk files.new).table (helds clients.new.items) }
-    ensures net_faults { N.faults net.old ≤ N.faults net.new }
-    ensures wait_faults { N.wait_faults net.new ≡ N.wait_faults net.old }
     ensures last { N.last net.new ≡ N.last net.old }
-    ensures left { N.ends → N.left net.new ≤ N.left net.old }
     ensures net_later { N.later net.old net.new }
-    ensures faults { F.faults files.old ≤ F.faults files.new }
     ensures later { F.later files.old files.new }
 {
     let Some(i) = place(clients, link) else {
         return;
     };
     let client = &mut clients[i];
-    let Some(ending) = read_for(client.conn_mut(), site, store, scratch, net, files) else {
-        return;
-    };
-    finish(clients.remove(i).into_conn(), store, net, files, ending);
-}
-
-/// A client may be written to.
-pub(crate) fn write_on<N: Net, F: Files>(
-    clients: &mut Vec<Client>,
-    site: &Site,
-    store: &mut Store,
-    net: &mut N,
-    files: &mut F,
-    link: Link,
-)
-    requires calls { 1 < N.calls net.old }
-    requires room { BUFFER_SIZE ≤ N.room net.old }
-    requires known { link.0 < N.links net.old }
-    requires kept { IsKept store.old clients.old.items }
-    requires backs { F.tells → Backs (F.disk files.old).table (helds clients.old.items) }
-    ensures turn { TurnsOn Writable link.0 (serving (served site.now) clients.old.items) (serving (served site.now) clients.new.items) N.tells F.tells
-        (seen_as (F.disk files.old) (F.faults files.old) (F.failed_read files.old)) (seen_as (F.disk files.new) (F.faults files.new) (F.failed_read files.new))
-        (N.trace net.old) (N.trace net.new) }
-    ensures filled { store.new.filled ≤ store.old.filled + TURN_FILL }
-    ensures kept { IsKept store.new clients.new.items }
-    ensures table { IsTable (N.links net.old) (helds clients.old.items) → IsTable (N.links net.new) (helds clients.new.items) }
-    ensures backs { F.tells → Backs (F.disk files.new).table (helds clients.new.items) }
-    ensures net_faults { N.faults net.old ≤ N.faults net.new }
-    ensures wait_faults { N.wait_faults net.new ≡ N.wait_faults net.old }
-    ensures last { N.last net.new ≡ N.last net.old }
-    ensures left { N.ends → N.left net.new ≤ N.left net.old }
-    ensures net_later { N.later net.old net.new }
-    ensures faults { F.faults files.old ≤ F.faults files.new }
-    ensures later { F.later files.old files.new }
-{
-    let Some(i) = place(clients, link) else {
-        return;
-    };
-    let client = &mut clients[i];
-    let Some(ending) = write_for(client.conn_mut(), site, store, net, files) else {
+    let Some(ending) = step_for(client.conn_mut(), site, store, scratch, net, files, ready) else {
         return;
     };
     finish(clients.remove(i).into_conn(), store, net, files, ending);

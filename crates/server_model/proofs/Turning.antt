@@ -11,7 +11,7 @@ use Rattle.server_model.specs.Held.{Held, Serving, kept_at}
 use Rattle.server_model.specs.Files.{file_of, Fits, FitsFor, Backs, FileStep}
 use Rattle.server_model.specs.Serves.{Stands, IsGone, StandsFor, Serves}
 use Rattle.server_model.specs.Due.{Due, DueRead, DueWrite}
-use Rattle.server_model.specs.Turns.{Seen, ReadFailed, NoReadFailed, Grows, open_with, StepsBy, TurnsOn}
+use Rattle.server_model.specs.Turns.{Seen, ReadFailed, NoReadFailed, DueOn, Grows, open_with, StepsBy, TurnsOn}
 use Rattle.server_model.proofs.Owned.{own-told}
 use Rattle.server_model.proofs.Frames.{frame, backs_on}
 use Rattle.server_model.proofs.Changing.{Changes, count_now}
@@ -21,33 +21,11 @@ use Rattle.server_model.proofs.Settled.{unwanted, unowing}
 abbrev pub IsReady : Act → Type 0
 IsReady event = (client link : ℕ) (trace : List Entry) → (own client (record { link = link; act = event } ∷ trace) ≡ own client trace) × (open_clients (record { link = link; act = event } ∷ trace) ≡ open_clients trace)
 
--- what a turn of this event has beside: a read for it touches no file
-abbrev pub IsSound : Act → Seen → Seen → Type 0
-IsSound Writable before after = Unit {0}
-IsSound event before after = NoReadFailed before after
-
--- what `due` says for a client is what is due for the event
-abbrev pub IsDue : Act → (Seen → Seen → ℕ → World → World → List Deed → List Deed → Type 0) → Type 0
-IsDue event due = (before after : Seen) (client : ℕ) (was is : World) (past now : List Deed) → IsSound event before after → due before after client was is past now → (open_now : ℕ)
-    → Due open_now event (NoReadFailed before after) (λ k. ReadFailed client k before after) was is past now
-
-abbrev pub due_read : Seen → Seen → ℕ → World → World → List Deed → List Deed → Type 0
-due_read before after client was is past now = DueRead was is past now
-
-abbrev pub due_write : Seen → Seen → ℕ → World → World → List Deed → List Deed → Type 0
-due_write before after client was is past now = DueWrite (NoReadFailed before after) (λ k. ReadFailed client k before after) was is past now
-
 pub readable_ready : IsReady Readable
 readable_ready client link trace = (refl, refl)
 
 pub writable_ready : IsReady Writable
 writable_ready client link trace = (refl, refl)
-
-pub readable_due : IsDue Readable due_read
-readable_due before after client was is past now sound d open_now = (sound, d)
-
-pub writable_due : IsDue Writable due_write
-writable_due before after client was is past now sound d open_now = d
 
 -- the parts of a step as those of the table
 module _ (link : ℕ) (table next : List Held) (held : Held) (now : Option Held) (before after : Disk) (kept : kept_at link table ≡ Some held) (change : Changes link table next now) where
@@ -80,10 +58,10 @@ serves_ready event link disk server trace ready serves = record {
   opened = serves.opened;
 }
 
-module _ (event : Act) (due : Seen → Seen → ℕ → World → World → List Deed → List Deed → Type 0) (ready : IsReady event) (is_due : IsDue event due)
+module _ (event : Act) (ready : IsReady event)
     (site : Site) (table next : List Held) (held : Held) (now : Option Held) (net files : Type 0) (before after : Seen) (old told_now : List Entry)
     (kept : kept_at held.link table ≡ Some held) (change : Changes held.link table next now) (backs : files → Backs before.disk.table table)
-    (step : StepsBy Stands (due before after held.link) site held now net files before.disk after.disk old told_now) where
+    (step : StepsBy Stands (DueOn event before after held.link) site held now net files before.disk after.disk old told_now) where
   stands : (trace : List Entry) → Serves before.disk (record { site = site; table = table }) trace → Stands before.disk.table (world_of site before.disk held.link (own held.link trace)) held (ours (own held.link trace))
   stands trace serves = let P : Option Held → Type 0 = λ k. StandsFor before.disk.table (world_of site before.disk held.link (own held.link trace)) k (own held.link trace) in subst P kept (serves.each held.link)
 
@@ -95,8 +73,8 @@ module _ (event : Act) (due : Seen → Seen → ℕ → World → World → List
       ap (own held.link) (gains_now n trace gained) ∙ own-told held.link step.deeds (record { link = held.link; act = event } ∷ trace) step.are ∙ ap (λ d. step.deeds ++ d) (ready held.link held.link trace).0
 
   -- a step of a client that is kept is a turn of the server
-  pub turn_step : before.faults ≤ after.faults → (files → IsSound event before after) → TurnsOn event held.link (record { site = site; table = table }) (record { site = site; table = next }) net files before after old told_now
-  turn_step rises sound n f trace gained new serves =
+  pub turn_step : before.faults ≤ after.faults → TurnsOn event held.link (record { site = site; table = table }) (record { site = site; table = next }) net files before after old told_now
+  turn_step rises n f trace gained new serves =
       let both = step.keeps f (own held.link trace) (stands trace serves) in
       let here = subst (λ d. StandsFor after.disk.table (world_of site after.disk held.link (step.deeds ++ d)) now (step.deeds ++ d)) (sym (ready held.link held.link trace).0) both.0 in
       let P : List Entry → Type 0 = Serves after.disk (record { site = site; table = next }) in (
@@ -112,7 +90,7 @@ module _ (event : Act) (due : Seen → Seen → ℕ → World → World → List
             refl,
             step.are,
             subst (λ (d : List Deed). Due (open_clients trace) event (NoReadFailed before after) (λ k. ReadFailed held.link k before after) (world_of site before.disk held.link (own held.link trace)) (world_of site after.disk held.link d) (own held.link trace) d) (sym (own_now n trace gained))
-                (is_due before after held.link (world_of site before.disk held.link (own held.link trace)) (world_of site after.disk held.link (step.deeds ++ own held.link trace)) (own held.link trace) (step.deeds ++ own held.link trace) (sound f) both.1 (open_clients trace)),
+                (both.1 (open_clients trace)),
           );
           grows = record { tree = (step.does f).tree; log = (step.does f).log; faults = rises };
         },

@@ -50,6 +50,10 @@ all_told (p ∷ parts) trace = told p.client p.deeds (all_told parts trace)
 abbrev pub DueFor : Site → Act → ℕ → Seen → Seen → List Entry → List Entry → Type 0
 DueFor site event client before after old now = Due (open_clients old) event (NoReadFailed before after) (λ k. ReadFailed client k before after) (world_of site before.disk client (own client old)) (world_of site after.disk client (own client now)) (own client old) (own client now)
 
+-- what is due for a client by its deeds, however many clients are open
+abbrev pub DueOn : Act → Seen → Seen → ℕ → World → World → List Deed → List Deed → Type 0
+DueOn event before after client was is past now = (open_now : ℕ) → Due open_now event (NoReadFailed before after) (λ k. ReadFailed client k before after) was is past now
+
 -- an event of a link concerns its client alone
 abbrev pub DueParts : Site → Act → ℕ → List Part → Seen → Seen → List Entry → List Entry → Type 0
 DueParts site event link [] before after old now = ⊥
