@@ -45,6 +45,13 @@ pub record Disk : Type 0 where
   -- the calls of `find` and `open`, the newest first
   pub calls : List Call
 
+-- the pieces of opened files that were asked for
+pub record Reads : Type 0 where
+  -- how many, up to 2^64 - 1
+  pub made : ℕ
+  -- for whom the last of those that failed was
+  pub failed : Option Owner
+
 -- after a call of this kind for this owner
 abbrev pub asked : FileCall → Owner → Bool → Disk → Disk
 asked what owner failed disk = record { tree = disk.tree; table = disk.table; calls = record { kind = what; owner = owner; failed = failed } ∷ disk.calls }
@@ -56,6 +63,10 @@ opened file bytes disk = record { tree = disk.tree; table = with_file file bytes
 -- after the file of this number was given back
 abbrev pub released : ℕ → Disk → Disk
 released file disk = record { tree = disk.tree; table = without_file file disk.table; calls = disk.calls }
+
+-- the file is open
+abbrev pub IsOpenAt : ℕ → Disk → Type 0
+IsOpenAt file disk = (bytes : List ℕ) × (disk.table file ≡ Some bytes)
 
 -- the file is open and has this range
 abbrev pub HasRange : Disk → ℕ → ℕ → ℕ → Type 0

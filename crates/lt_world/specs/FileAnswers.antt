@@ -1,13 +1,15 @@
 -- What each answer of files means (src/files.rt, the trait `Files`).
-use Rattle.std.specs.Prelude.{◌≡◌, ℕ, ◌<◌, ◌^◌, List, length, None, true, false}
+use Rattle.std.specs.Prelude.{◌≡◌, ℕ, ◌<◌, ◌^◌, List, length, Some, None, true, false, Result, Ok, Err}
 use Rattle.lt_world.specs.declared.files.FileCall.TheVariants as call
 use Rattle.lt_world.specs.declared.net.Owner.{Owner}
 use Rattle.lt_world.specs.declared.files.Found.{Found}
 use Rattle.lt_world.specs.declared.files.Found.TheVariants as found
 use Rattle.lt_world.specs.declared.files.Opened.{Opened}
 use Rattle.lt_world.specs.declared.files.Opened.TheVariants as opens
+use Rattle.lt_world.specs.declared.fault.Fault.{Fault}
 use Rattle.lt_world.specs.Causes.{Rose}
-use Rattle.lt_world.specs.Disk.{Node, Missing, Directory, File, Disk, ends_in_slash, asked, opened}
+use Rattle.lt_world.specs.Disk.{Node, Missing, Directory, File, Disk, Reads, ends_in_slash, asked, opened}
+use Rattle.lt_world.specs.Plans.{next}
 
 -- a call that answers for want of memory isn't counted
 abbrev pub found_disk : Found → Owner → Disk → Disk
@@ -55,3 +57,8 @@ OpenedWithin answer path = Unit {0}
 abbrev pub OpenedCause : Opened → ℕ → ℕ → Type 0
 OpenedCause opens.Failed before now = Rose before now
 OpenedCause answer before now = Unit {0}
+
+-- a piece was asked for, and it failed or not
+abbrev pub read_once : Result (Unit {0}) Fault → Owner → Reads → Reads
+read_once (Ok done) owner reads = record { made = next reads.made; failed = reads.failed }
+read_once (Err fault) owner reads = record { made = next reads.made; failed = Some owner }

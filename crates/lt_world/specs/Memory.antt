@@ -3,7 +3,7 @@ use Rattle.std.specs.Prelude.{ℕ, ◌-◌, List, [], ◌∷◌, ◌++◌, Optio
 use Rattle.std.specs.Str.{bytes_eq}
 use Rattle.lt_world.specs.declared.net.Owner.{Owner}
 use Rattle.lt_world.specs.declared.files.Call.{Call}
-use Rattle.lt_world.specs.Disk.{Node, Missing, Directory, File, Tree, Table, Disk, ends_in_slash}
+use Rattle.lt_world.specs.Disk.{Node, Missing, Directory, File, Tree, Table, Disk, Reads, ends_in_slash}
 use Rattle.lt_world.specs.Plans.{Planned, no_plan}
 
 -- what was placed at a path
@@ -97,3 +97,7 @@ is_path path = begins_with_slash path && not (ends_in_slash path)
 -- no files, no calls, no plans
 abbrev pub no_files : Stored
 no_files = record { places = []; opened = []; calls = []; find_plan = no_plan; open_plan = no_plan; read_plan = no_plan; faults = 0; failed_read = None }
+
+-- the reads that were asked for
+abbrev pub reads_of : Stored → Reads
+reads_of s = record { made = s.read_plan.made; failed = s.failed_read }

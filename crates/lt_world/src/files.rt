@@ -46,10 +46,9 @@ pub enum Opened {
 /// `read_at` and `release` take no memory. A call that answers for want of memory is not counted among the calls that
 /// were made.
 pub trait Files {
-    ghost use Rattle.std.specs.Prelude.{◌≡◌, ℕ, ◌≤◌, length, Option, Some, OnOk, OnErr};
-    ghost use Rattle.lt_world.specs.declared.net.Owner.{Owner};
-    ghost use Rattle.lt_world.specs.Disk.{Disk, IsFileAt, HasRange, range_of, released};
-    ghost use Rattle.lt_world.specs.FileAnswers.{found_disk, FoundRight, FoundWithin, FoundCause, Opens, OpenedWithin, OpenedCause};
+    ghost use Rattle.std.specs.Prelude.{◌≡◌, ℕ, ◌≤◌, length, OnOk, OnErr};
+    ghost use Rattle.lt_world.specs.Disk.{Disk, Reads, IsFileAt, IsOpenAt, HasRange, range_of, released};
+    ghost use Rattle.lt_world.specs.FileAnswers.{found_disk, FoundRight, FoundWithin, FoundCause, Opens, OpenedWithin, OpenedCause, read_once};
     ghost use Rattle.lt_world.specs.Causes.{Rose};
 
     /// Whether files of this type tell what they hold and what was asked.
@@ -61,8 +60,8 @@ pub trait Files {
     /// How often a call has failed. It never falls.
     ghost faults: { Self → ℕ };
 
-    /// The owner of the last `read_at` that failed.
-    ghost failed_read: { Self → Option Owner };
+    /// How often `read_at` was called, and for whom it failed last.
+    ghost reads: { Self → Reads };
 
     /// The second files are what the first may become. What is later has failed as often or more.
     ghost later: { Self → Self → Type 0 };
@@ -74,7 +73,7 @@ pub trait Files {
         ensures within { FoundWithin result path.now }
         ensures cause { FoundCause result (faults self.old) (faults self.new) }
         ensures faults { faults self.old ≤ faults self.new }
-        ensures failed_read { tells → failed_read self.new ≡ failed_read self.old }
+        ensures reads { reads self.new ≡ reads self.old }
         ensures later { later self.old self.new };
 
     /// Opens the file at a path.
@@ -84,7 +83,7 @@ pub trait Files {
         ensures within { OpenedWithin result path.now }
         ensures cause { OpenedCause result (faults self.old) (faults self.new) }
         ensures faults { faults self.old ≤ faults self.new }
-        ensures failed_read { tells → failed_read self.new ≡ failed_read self.old }
+        ensures reads { reads self.new ≡ reads self.old }
         ensures later { later self.old self.new };
 
     /// Fills the whole buffer with the bytes of an opened file from `start` on, or fails.
@@ -100,15 +99,15 @@ pub trait Files {
         ensures disk { tells → disk self.new ≡ disk self.old }
         ensures cause { OnErr result (Rose (faults self.old) (faults self.new)) }
         ensures faults { faults self.old ≤ faults self.new }
-        ensures owner { OnErr result (tells → failed_read self.new ≡ Some owner) }
-        ensures failed_read { OnOk result (tells → failed_read self.new ≡ failed_read self.old) }
+        ensures reads { reads self.new ≡ read_once result owner (reads self.old) }
         ensures later { later self.old self.new };
 
     /// Closes an opened file.
     fn release(&mut self, file: FileId)
+        requires { tells → IsOpenAt file.0 (disk self.old) }
         ensures disk { tells → disk self.new ≡ released file.0 (disk self.old) }
         ensures faults { faults self.old ≤ faults self.new }
-        ensures failed_read { tells → failed_read self.new ≡ failed_read self.old }
+        ensures reads { reads self.new ≡ reads self.old }
         ensures later { later self.old self.new };
 
     ghost later_same: { (files : Self) → later files files };

@@ -194,7 +194,7 @@ impl MemFiles {
 }
 
 impl Files for MemFiles {
-    ghost use Rattle.lt_world.specs.Memory.{disk_of};
+    ghost use Rattle.lt_world.specs.Memory.{disk_of, reads_of};
     ghost use Rattle.lt_world.specs.FileRuns.{FilesLater, FilesLater-same, FilesLater-more, FilesLater-faults};
 
     ghost tells = { Unit {0} };
@@ -203,7 +203,7 @@ impl Files for MemFiles {
 
     ghost faults = { λ files. files.faults };
 
-    ghost failed_read = { λ files. files.failed_read };
+    ghost reads = { reads_of };
 
     ghost later = { FilesLater };
 
