@@ -8,7 +8,7 @@ use crate::names::name_of;
 use crate::open_files::OpenFiles;
 use crate::ranges::fill;
 use crate::refusals::{Refusal, refusal_of};
-use lt_world::{Fault, FileId, Files, Found, Opened, Owner};
+use lt_world::{Fault, FileId, Files, Found, Opened, Owner, ReadLog};
 use std::fs::File;
 use std::{fs, rt};
 
@@ -22,6 +22,7 @@ pub struct DiskFiles<R> {
     rt: R,
     table: OpenFiles<File>,
     faults: u64,
+    reads: ReadLog,
 }
 
 impl<R: AllocGlobal> DiskFiles<R> {
@@ -32,6 +33,7 @@ impl<R: AllocGlobal> DiskFiles<R> {
             rt,
             table,
             faults: 0,
+            reads: ReadLog::new(),
         }
     }
 }
@@ -47,7 +49,7 @@ impl<R: rt::Files<File = File>> Files for DiskFiles<R> {
 
     ghost faults = { λ files. files.faults };
 
-    ghost failed_read = { λ _. None };
+    ghost reads = { λ files. files.reads };
 
     // What is later has failed as often or more.
     ghost later = { λ a b. a.faults ≤ b.faults };
@@ -76,7 +78,7 @@ impl<R: rt::Files<File = File>> Files for DiskFiles<R> {
 
     fn read_at(
         &mut self,
-        _owner: Owner,
+        owner: Owner,
         file: FileId,
         start: u64,
         buf: &mut [u8],
@@ -88,6 +90,7 @@ impl<R: rt::Files<File = File>> Files for DiskFiles<R> {
         if read.is_err() {
             self.faults = self.faults.saturating_add(1);
         }
+        self.reads.add(owner, &read);
         read
     }
 
