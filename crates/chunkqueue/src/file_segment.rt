@@ -102,8 +102,9 @@ impl FileSegment {
         ensures bytes { OnOk result (F.tells → self.new.staged ≡ range_of (F.disk files.old) self.old.file self.old.start (min self.old.len BUFFER_SIZE)) }
         ensures err { OnErr result (self.new ≡ self.old) }
         ensures cause { OnErr result (Rose (F.faults files.old) (F.faults files.new)) }
-        ensures owner { OnErr result (F.tells → F.failed_read files.new ≡ Some owner) }
-        ensures read { OnOk result (F.tells → F.failed_read files.new ≡ F.failed_read files.old) }
+        ensures owner { OnErr result ((F.reads files.new).failed ≡ Some owner) }
+        ensures read { OnOk result ((F.reads files.new).failed ≡ (F.reads files.old).failed) }
+        ensures once { (F.reads files.new).made ≤ (F.reads files.old).made + 1 }
         ensures disk { F.tells → F.disk files.new ≡ F.disk files.old }
         ensures faults { F.faults files.old ≤ F.faults files.new }
         ensures later { F.later files.old files.new }
@@ -159,8 +160,9 @@ pub(crate) fn read_front<F: Files>(
     requires lies { F.tells → HasRange (F.disk files.old) file.0 start n }
     ensures bytes { OnOk result (F.tells → take n buffer.new ≡ range_of (F.disk files.old) file.0 start n) }
     ensures cause { OnErr result (Rose (F.faults files.old) (F.faults files.new)) }
-    ensures owner { OnErr result (F.tells → F.failed_read files.new ≡ Some owner) }
-    ensures read { OnOk result (F.tells → F.failed_read files.new ≡ F.failed_read files.old) }
+    ensures owner { OnErr result ((F.reads files.new).failed ≡ Some owner) }
+    ensures read { OnOk result ((F.reads files.new).failed ≡ (F.reads files.old).failed) }
+    ensures once { (F.reads files.new).made ≤ (F.reads files.old).made + 1 }
     ensures disk { F.tells → F.disk files.new ≡ F.disk files.old }
     ensures faults { F.faults files.old ≤ F.faults files.new }
     ensures later { F.later files.old files.new }

@@ -122,8 +122,9 @@ pub trait Queue {
             IsOk result × (contents self.new ≡ contents self.old) × (files.new ≡ files.old) }
         ensures err { OnErr result (contents self.new ≡ contents self.old) }
         ensures cause { OnErr result (Rose (F.faults files.old) (F.faults files.new)) }
-        ensures owner { OnErr result (F.tells → F.failed_read files.new ≡ Some owner) }
-        ensures read { OnOk result (F.tells → F.failed_read files.new ≡ F.failed_read files.old) }
+        ensures owner { OnErr result ((F.reads files.new).failed ≡ Some owner) }
+        ensures read { OnOk result ((F.reads files.new).failed ≡ (F.reads files.old).failed) }
+        ensures once { (F.reads files.new).made ≤ (F.reads files.old).made + 1 }
         ensures disk { F.tells → F.disk files.new ≡ F.disk files.old }
         ensures faults { F.faults files.old ≤ F.faults files.new }
         ensures later { F.later files.old files.new }

@@ -1,5 +1,5 @@
 //! Bytes of a file that are read into the first chunk of a list.
-ghost use Rattle.std.specs.Prelude.{◌≡◌, ◌≤◌, length, Some, MatchOption, IsOk, OnOk, OnErr};
+ghost use Rattle.std.specs.Prelude.{◌≡◌, ◌+◌, ◌≤◌, length, Some, MatchOption, IsOk, OnOk, OnErr};
 ghost use Rattle.buffer_pool.specs.Kept.{numbers};
 ghost use Rattle.lt_world.specs.Causes.{Rose};
 ghost use Rattle.chunkqueue.specs.Plain.{FirstLies, first_staged, first_staging, segments_unstaged, staged_by};
@@ -29,8 +29,9 @@ pub(crate) fn stage_front<F: Files>(
         IsOk result × (chunks.new ≡ chunks.old) × (files.new ≡ files.old) }
     ensures err { OnErr result (chunks.new ≡ chunks.old) }
     ensures cause { OnErr result (Rose (F.faults files.old) (F.faults files.new)) }
-    ensures owner { OnErr result (F.tells → F.failed_read files.new ≡ Some owner) }
-    ensures read { OnOk result (F.tells → F.failed_read files.new ≡ F.failed_read files.old) }
+    ensures owner { OnErr result ((F.reads files.new).failed ≡ Some owner) }
+    ensures read { OnOk result ((F.reads files.new).failed ≡ (F.reads files.old).failed) }
+    ensures once { (F.reads files.new).made ≤ (F.reads files.old).made + 1 }
     ensures disk { F.tells → F.disk files.new ≡ F.disk files.old }
     ensures faults { F.faults files.old ≤ F.faults files.new }
     ensures later { F.later files.old files.new }

@@ -1,5 +1,5 @@
 //! One segment of a plain queue.
-ghost use Rattle.std.specs.Prelude.{◌≡◌, ◌<◌, ◌≤◌, length, take, Some, IsTrue, IsOk, IfOk, OnOk, OnErr, ◌↔◌};
+ghost use Rattle.std.specs.Prelude.{◌≡◌, ◌+◌, ◌<◌, ◌≤◌, length, take, Some, IsTrue, IsOk, IfOk, OnOk, OnErr, ◌↔◌};
 ghost use Rattle.lt_world.specs.Causes.{Rose};
 ghost use Rattle.chunkqueue.specs.Plain.{front_of_segment, segment_after, segment_unstaged, segment_left, segment_front, segment_rest, segment_staged, segment_staging, segment_reads, IsHeld, SegmentLies};
 
@@ -60,8 +60,9 @@ impl Segment {
             IsOk result × (self.new ≡ self.old) × (files.new ≡ files.old) }
         ensures err { OnErr result (self.new ≡ self.old) }
         ensures cause { OnErr result (Rose (F.faults files.old) (F.faults files.new)) }
-        ensures owner { OnErr result (F.tells → F.failed_read files.new ≡ Some owner) }
-        ensures read { OnOk result (F.tells → F.failed_read files.new ≡ F.failed_read files.old) }
+        ensures owner { OnErr result ((F.reads files.new).failed ≡ Some owner) }
+        ensures read { OnOk result ((F.reads files.new).failed ≡ (F.reads files.old).failed) }
+        ensures once { (F.reads files.new).made ≤ (F.reads files.old).made + 1 }
         ensures disk { F.tells → F.disk files.new ≡ F.disk files.old }
         ensures faults { F.faults files.old ≤ F.faults files.new }
         ensures later { F.later files.old files.new }

@@ -2,7 +2,7 @@
 ghost use Rattle.std.specs.Prelude.{◌≡◌};
 
 use super::*;
-use lt_world::{Fault, FileId, Files, Found, Opened, Owner};
+use lt_world::{Fault, FileId, Files, Found, Opened, Owner, ReadLog};
 use std::test::Fail;
 
 pub(crate) const OWNER: Owner = Owner {
@@ -15,6 +15,7 @@ pub(crate) const OWNER: Owner = Owner {
 pub(crate) struct Letters {
     broken: bool,
     faults: u64,
+    reads: ReadLog,
 }
 
 impl Files for Letters {
@@ -28,7 +29,7 @@ impl Files for Letters {
 
     ghost faults = { λ files. files.faults };
 
-    ghost failed_read = { λ _. None };
+    ghost reads = { λ files. files.reads };
 
     ghost later = { λ a b. a.faults ≤ b.faults };
 
@@ -48,18 +49,20 @@ impl Files for Letters {
 
     fn read_at(
         &mut self,
-        _owner: Owner,
+        owner: Owner,
         _file: FileId,
         start: u64,
         buf: &mut [u8],
     ) -> Result<(), Fault> {
         if self.broken {
             self.faults = self.faults.saturating_add(1);
+            self.reads.add(owner, &Err(Fault));
             return Err(Fault);
         }
         for (i, byte) in buf.iter_mut().enumerate() {
             *byte = b'a' + (start.wrapping_add(i as u64) % 26) as u8;
         }
+        self.reads.add(owner, &Ok(()));
         Ok(())
     }
 
@@ -70,6 +73,7 @@ pub(crate) fn sound_files() -> Letters {
     Letters {
         broken: false,
         faults: 0,
+        reads: ReadLog::new(),
     }
 }
 
