@@ -29,3 +29,4 @@ pub mod Running
 pub mod Endings
 pub mod Rows
 pub mod Limited
+pub mod Refusals

@@ -16,9 +16,13 @@ pub record Settings : Type 0 where
 abbrev pub request_limit : ℕ
 request_limit = 100
 
+-- the default of `server.max-request-size`, 1,024 KiB
+abbrev pub body_limit : ℕ
+body_limit = 1048576
+
 -- those for a request of a client that came so, of which this head was read, or none; proofs know nothing of them but where they say so
 unfoldable pub settings_at : Site → Option Arrival → Option Head → Settings
-settings_at site arrival head = record { tag = codes "lighttpd"; request_limit = request_limit; body_limit = 1048576 }
+settings_at site arrival head = record { tag = codes "lighttpd"; request_limit = request_limit; body_limit = body_limit }
 
 abbrev pub settings_of : World → Option Head → Settings
 settings_of world head = settings_at world.site world.side.arrival head

@@ -1,5 +1,5 @@
 //! The laws on the definitions: each function does nothing, and its clauses are theorems.
-ghost use Rattle.std.specs.Prelude.{◌≡◌, ◌≢◌, ◌⊎◌, ℕ, ◌+◌, ◌-◌, ◌^◌, ◌<◌, ◌≤◌, ◌||◌, List, [], ◌∷◌, ◌++◌, length, take, drop, codes, Bool, true, false, Some, None};
+ghost use Rattle.std.specs.Prelude.{◌≡◌, ◌≢◌, ◌⊎◌, ℕ, ◌+◌, ◌-◌, ◌^◌, ◌<◌, ◌≤◌, ◌||◌, List, [], ◌∷◌, ◌++◌, length, take, drop, codes, Bool, true, false, Some, None, Err};
 ghost use Rattle.lt_world.specs.Acts.{ending_of, deeds_of};
 ghost use Rattle.lt_world.specs.declared.files.FileCall.{FileCall};
 ghost use Rattle.lt_world.specs.declared.net.Address.{Address};
@@ -10,16 +10,21 @@ ghost use Rattle.lt_world.specs.Disk.{Disk};
 ghost use Rattle.lt_world.specs.Trace.{Act, Entry, own as link_acts};
 ghost use Rattle.http_head.specs.declared.framing.Framing.TheVariants as framed;
 ghost use Rattle.http_head.specs.Options.{closes};
+ghost use Rattle.http_head.specs.Head.{head_of};
+ghost use Rattle.http_head.specs.declared.refusal.HeadRefusal.TheVariants as refusal;
+ghost use Rattle.lt_http_body.specs.declared.state.State.{State};
+ghost use Rattle.lt_http_body.specs.declared.body.BodyRefusal.TheVariants as refused;
+ghost use Rattle.lt_http_body.specs.Standings.{answer_from};
 ghost use Rattle.server_model.specs.Site.{Site};
 ghost use Rattle.server_model.specs.Request.{Head, Request, Complete, Open, Declined, Refused, HasHead, front_of, headed, request_of, rest_of, is_complete, Limits};
 ghost use Rattle.server_model.specs.World.{World, is_arrival, world_of, with_call};
-ghost use Rattle.server_model.specs.Settings.{request_limit, settings_of, limit_for, is_reached};
+ghost use Rattle.server_model.specs.Settings.{request_limit, body_limit, settings_of, limit_for, is_reached};
 ghost use Rattle.server_model.specs.Reply.{Reply, reply, is_accepted, continue_of};
 ghost use Rattle.server_model.specs.Stream.{IsPrefix, is_followed, joined, Passed, left_after, replies_to, stream_of};
 ghost use Rattle.server_model.specs.Deeds.{Deed, Ours, own, ours, told, deeds_in, AreDeeds};
-ghost use Rattle.server_model.specs.Client.{CameFrom, stream, IsServedRight};
+ghost use Rattle.server_model.specs.Client.{CameFrom, input_limit, stream, IsServedRight};
 ghost use Rattle.server_model.specs.Open.{open_clients};
-ghost use Rattle.server_model.specs.Due.{connection_limit};
+ghost use Rattle.server_model.specs.Due.{connection_limit, offer_limit};
 ghost use Rattle.server_model.specs.Held.{Serving};
 ghost use Rattle.server_model.specs.Serves.{Serves};
 ghost use Rattle.server_model.specs.Turns.{Grows};
@@ -163,4 +168,19 @@ pub fn stream_stays()
 
     // A call that comes as its request is planned, once all before it was taken, changes nothing that was taken.
     ensures planned { (world : World) (what : FileCall) (k : ℕ) (failed : Bool) (input output : List ℕ) → Passed k (replies_to world input) output → IsPrefix output (stream_of (with_call what k failed world) input) }
+{}
+
+/// The limits as numbers. A configuration may set other requests and bytes of a body.
+pub fn the_limits_are_numbers()
+    ensures requests { request_limit ≡ 100 }
+    ensures body { body_limit ≡ 1048576 }
+    ensures clients { connection_limit ≡ 256 }
+    ensures input { input_limit ≡ 65536 }
+    ensures offer { offer_limit ≡ 4096 }
+{}
+
+/// The statuses that stand for want of memory never come: by their bytes neither a head nor a body is refused for it.
+pub fn memory_refuses_nothing()
+    ensures head { (bytes : List ℕ) → head_of bytes ≢ Err refusal.NoMemory }
+    ensures body { (s : State) → answer_from s ≢ Err refused.NoMemory }
 {}
