@@ -15,11 +15,12 @@ use Rattle.lt_http_body.specs.Standings.{answer_from}
 use Rattle.lt_http_body.specs.Reading.{standing_after, data_in, taken_in}
 use Rattle.lt_http_body.proofs.ReadingLemmas.{after_append, data_append, taken_append}
 use Rattle.server_model.specs.Settings.{limit_for}
-use Rattle.server_model.specs.Request.{Head, Request, Refused, Declined, Complete, Front, NoHead, BadHead, HasHead, front_of, body_status, bodied, begin_of, request_of, is_complete, Limits}
+use Rattle.server_model.specs.Request.{Head, Request, Unfinished, Refused, Open, Declined, Complete, Front, NoHead, BadHead, HasHead, front_of, body_status, bodied, begin_of, request_of, is_complete, Limits}
 use Rattle.server_model.specs.World.{World, call_count}
+use Rattle.server_model.specs.Plan.{calls_of}
 use Rattle.server_model.specs.Reply.{Whole, Reply, continue_of, reply}
 use Rattle.server_model.specs.Stream.{Passed, reply_at, left_after, replies_to}
-use Rattle.server_model.specs.Client.{IsPlanned, AskedInTurn}
+use Rattle.server_model.specs.Client.{IsPlanned, AskedInTurn, AskedWithin, AskedWhole, request_at}
 use Rattle.chunkqueue.specs.Items.{Item, Byte, bytes_of, item_byte, Shows}
 use Rattle.server_model.specs.Held.{Stage, Awaiting, Heading, Taking, Asking, Answering, Held}
 use Rattle.server_model.specs.Steps.{number_of, has_no_items, looked_at, looked, fed_at, advanced_at, advanced, accepted_at, accepted, answered}
@@ -46,6 +47,7 @@ module _ (opened : Table) (world : World) (held : Held) (acts : List Act) where
     at = at;
     in_turn = m.in_turn;
     unasked = λ j what past. m.unasked j what (omega (arith, past, from));
+    asked = m.asked;
   }
 
   -- a reply that isn't the last was wholly taken
@@ -161,6 +163,7 @@ module _ (opened : Table) (world : World) (held : Held) (acts : List Act) where
         };
         in_turn = m.in_turn;
         unasked = λ j what past. m.unasked j what (omega (arith, past, ap first_unasked is));
+        asked = m.asked;
       }
 
   pub matches_accepted : (limit : ℕ) → ((k : ℕ) (head : Head) → held.stage ≡ Heading k head → limit ≡ limit_for world head) → Matches opened world held acts → Matches opened world (accepted held limit) acts
@@ -173,9 +176,21 @@ module _ (opened : Table) (world : World) (held : Held) (acts : List Act) where
       by (Asking k r) is = m
       by (Answering k last) is = m
 
+-- the head of a request that is complete
+abbrev head_or : Head → Request → Head
+head_or other Unfinished = other
+head_or other (Refused status) = other
+head_or other (Open head) = other
+head_or other (Declined status head) = other
+head_or other (Complete head content) = head
+
+fewer : (a b c d : ℕ) → a ≡ b → c ≡ d → b ≤ d → a ≤ c
+fewer a b c d ab cd le = omega (arith, ab, cd, le)
+
 -- a request that is there, in a world in which calls were made for it alone
 module _ (opened now : Table) (world other : World) (held : Held) (acts : List Act) (k : ℕ) (r : Request) (asking : held.stage ≡ Asking k r) (limits : limit_for other ≡ limit_for world)
-    (others : (j : ℕ) (what : FileCall) → (k ≡ j → ⊥) → call_count other j what ≡ call_count world j what) (same : (j : ℕ) (q : Request) → (k ≡ j → ⊥) → reply other j q ≡ reply world j q) where
+    (others : (j : ℕ) (what : FileCall) → (k ≡ j → ⊥) → call_count other j what ≡ call_count world j what) (same : (j : ℕ) (q : Request) → (k ≡ j → ⊥) → reply other j q ≡ reply world j q)
+    (plans : (j : ℕ) (h : Head) (what : FileCall) → (k ≡ j → ⊥) → calls_of other j h what ≡ calls_of world j h what) where
   asks_here : Matches opened world held acts → IsAsking opened world held acts k r
   asks_here m = subst (IsAt opened world held acts) asking m.at
 
@@ -195,9 +210,23 @@ module _ (opened now : Table) (world other : World) (held : Held) (acts : List A
     file = at.file;
   }
 
+  same_at : (j : ℕ) → request_at other acts j ≡ request_at world acts j
+  same_at j = ap (λ (l : Limits). request_of l (left_after l j (input_of acts))) limits
+
+  -- what holds by its head holds by the head of the request that is there
+  pub by_head : (head : Head) (content : List ℕ) → r ≡ Complete head content → (P : Head → Type 0) → P head → Matches opened world held acts → (h : Head) (c : List ℕ) → request_at other acts k ≡ Complete h c → P h
+  by_head head content is P here m h c there = subst P (ap (head_or head) (sym is ∙ sym (asks_other m).request ∙ there)) here
+
+  -- just what its plan names was asked for it
+  pub asked_planned : AskedWhole other acts k → Matches opened world held acts → (j : ℕ) (what : FileCall) → 0 < call_count other j what → AskedWhole other acts j
+  asked_planned whole m j what some h c is w = elim (cases_eq k j) [
+    | inl here ↦ subst (AskedWhole other acts) here whole h c is w
+    | inr apart ↦ others j w apart ∙ m.asked j what (omega (arith, some, others j what apart)) h c (sym (same_at j) ∙ is) w ∙ sym (plans j h w apart)
+  ]
+
   -- calls are made for it alone, and it is complete
-  pub matches_planned : is_complete r ≡ true → Matches opened world held acts → AskedInTurn other acts
-  matches_planned complete m j what some = elim (cases_eq k j) [
+  pub matches_planned : is_complete r ≡ true → AskedWithin other acts k → Matches opened world held acts → AskedInTurn other acts
+  matches_planned complete within m j what some = elim (cases_eq k j) [
     | inl is ↦
         let at = asks_other m in
         let now : IsPlanned other acts k = record {
@@ -205,13 +234,14 @@ module _ (opened now : Table) (world other : World) (held : Held) (acts : List A
           passed = at.begun.passed;
           taken = (at.begun.taken, sym at.begun.output);
           whole = ap is_complete at.request ∙ complete;
+          within = within;
         } in
         subst (IsPlanned other acts) is now
     | inr apart ↦
         let counted : call_count other j what ≡ call_count world j what = others j what apart in
         let p = m.in_turn j what (omega (arith, some, counted)) in
         let below : j < k = elim (cases_lt j k) [ inl less ↦ less | inr past ↦ absurd (omega (arith, some, counted, m.unasked j what (omega (arith, past, ap first_unasked asking)))) ] in
-        record { before = p.before; passed = passed_other j p.before (omega (arith, below)) p.passed; taken = p.taken; whole = ap (λ (l : Limits). is_complete (request_of l (left_after l j (input_of acts)))) limits ∙ p.whole }
+        record { before = p.before; passed = passed_other j p.before (omega (arith, below)) p.passed; taken = p.taken; whole = ap is_complete (same_at j) ∙ p.whole; within = λ h c is w. fewer (call_count other j w) (call_count world j w) (calls_of other j h w) (calls_of world j h w) (others j w apart) (plans j h w apart) (p.within h c (sym (same_at j) ∙ is) w) }
   ]
 
   -- further items come behind those that are owed
@@ -222,9 +252,9 @@ module _ (opened now : Table) (world other : World) (held : Held) (acts : List A
       ∙ (λ i. take (length held.staged) (sym kept i ++ bytes_of now items)) ∙ ap (take (length held.staged)) (sym (map-append (item_byte now) held.owed items))
 
   -- its reply is given, behind what is owed of what was told before it
-  pub matches_answered : (items : List Item) (file : Option ℕ) (last : Bool) → AskedInTurn other acts → (reply other k r).extent ≡ Whole → (reply other k r).last ≡ last → bytes_of now held.owed ≡ bytes_of opened held.owed
+  pub matches_answered : (items : List Item) (file : Option ℕ) (last : Bool) → AskedInTurn other acts → ((j : ℕ) (what : FileCall) → 0 < call_count other j what → AskedWhole other acts j) → (reply other k r).extent ≡ Whole → (reply other k r).last ≡ last → bytes_of now held.owed ≡ bytes_of opened held.owed
       → told_first (limit_for other) r ++ bytes_of now items ≡ (reply other k r).bytes → Matches opened world held acts → Matches now other (answered held items file last) acts
-  matches_answered items file last turn whole last_is kept is m =
+  matches_answered items file last turn asked whole last_is kept is m =
       let at = asks_other m in
       let b = at.begun in
       let passed = b.passed in
@@ -250,4 +280,5 @@ module _ (opened now : Table) (world other : World) (held : Held) (acts : List A
         at = subst (λ (n : ℕ). IsAnswering now other (answered held items file last) acts n last) (sym number) answers;
         in_turn = turn;
         unasked = λ j what past. unasked_above m j what (omega (arith, past, number));
+        asked = asked;
       }

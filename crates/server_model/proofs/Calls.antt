@@ -73,6 +73,10 @@ module _ (world : World) (k : ℕ) where
       ap (λ t. if is_kind made what && t then call_count world j what + 1 else call_count world j what) (other_owner (owner_at world k) world.client j apart)
       ∙ ap (λ t. if t then call_count world j what + 1 else call_count world j what) (and_false (is_kind made what))
 
+  -- one more call for it
+  pub count_more : (what : FileCall) (failed : Bool) → is_kind what what ≡ true → call_count (with_call what k failed world) k what ≡ call_count world k what + 1
+  count_more what failed kind = (λ i. if kind i && same_owner (owner_at world k) i then call_count world k what + 1 else call_count world k what)
+
   -- after a find behind so many others
   pub find_failed : (n : ℕ) (failed : Bool) → call_count world k call.Find ≡ n → has_failed_call (with_call call.Find k failed world) k call.Find n ≡ failed
   find_failed n failed is = newest call.Find (owner_at world k) failed n world.calls refl is

@@ -25,6 +25,7 @@ matches_over before after world held acts same m = record {
   at = at_as before after world held held acts acts refl refl refl refl refl (λ e. e) same held.stage m.at;
   in_turn = m.in_turn;
   unasked = m.unasked;
+  asked = m.asked;
 }
 
 pub stands_over : (before after : Table) (world : World) (held : Held) (acts : List Act) → bytes_of after held.owed ≡ bytes_of before held.owed → Stands before world held acts → Stands after world held acts

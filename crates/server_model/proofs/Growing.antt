@@ -7,9 +7,9 @@ use Rattle.lt_world.specs.declared.files.FileCall.TheVariants as call
 use Rattle.lt_world.specs.Disk.{is_kind}
 use Rattle.lt_world.specs.Trace.{Act, Accepted, Readable, Writable, Read, ReadEnd, NotYet, Failed, Wrote, Connect, Close}
 use Rattle.server_model.specs.Settings.{settings_of, limit_for}
-use Rattle.server_model.specs.Request.{Request, Unfinished, Refused, Open, Declined, Complete, Limits, request_of, rest_of, is_complete, requests_within}
+use Rattle.server_model.specs.Request.{Head, Request, Unfinished, Refused, Open, Declined, Complete, Limits, request_of, rest_of, is_complete, requests_within}
 use Rattle.server_model.specs.World.{World, owner_at, has_failed_call, with_call}
-use Rattle.server_model.specs.Plan.{sought_by, sought, places_of, outcome, is_served}
+use Rattle.server_model.specs.Plan.{Sought, sought_by, sought, places_of, outcome, is_served, finds_by, finds_at, opens_by, calls_of}
 use Rattle.server_model.specs.Reply.{continue_of, planned_reply, reply, replies}
 use Rattle.server_model.specs.Stream.{IsPrefix, is_followed, joined, Passed, replies_to, stream_of}
 use Rattle.server_model.specs.Client.{stream}
@@ -144,7 +144,16 @@ module _ (world : World) (made : FileCall) (k j : ℕ) (failed : Bool) (apart : 
   sought_other n [] = refl
   sought_other n (place ∷ places) = (λ i. sought_by (failed_other call.Find n i) (world.tree place) (sought_other (n + 1) places i))
 
+  finds_other : (n : ℕ) (places : List (List ℕ)) → finds_at (with_call made k failed world) j n places ≡ finds_at world j n places
+  finds_other n [] = refl
+  finds_other n (place ∷ places) = (λ i. finds_by (failed_other call.Find n i) (world.tree place) (finds_other (n + 1) places i))
+
   -- a call for another request
+  pub calls_other : (head : Head) (what : FileCall) → calls_of (with_call made k failed world) j head what ≡ calls_of world j head what
+  calls_other head call.Find = finds_other 0 (places_of world.site head)
+  calls_other head call.Open = ap (λ (s : Sought). opens_by s (is_served head.method)) (sought_other 0 (places_of world.site head))
+  calls_other head call.Read = refl
+
   pub reply_other : (r : Request) → reply (with_call made k failed world) j r ≡ reply world j r
   reply_other Unfinished = refl
   reply_other (Refused status) = refl

@@ -104,24 +104,24 @@ module _ (client : ℕ) (deeds : List Deed) (old now : List Entry) (are : AreDee
       ap open_clients gains ∙ count_told client deeds (record { link = client; act = Accepted peer local } ∷ old) ∙ ap (λ d. count_after d (open_clients old + 1)) front in
       omega (arith, count, a.2 within)
 
-  due_within : (event : Act) (sound : Type 0) (failed : ℕ → Type 0) (before after : World) → Due (open_clients old) event sound failed before after (own client old) (own client now)
+  due_within : (event : Act) (unread sound : Type 0) (failed : ℕ → Type 0) (before after : World) → Due (open_clients old) event unread sound failed before after (own client old) (own client now)
       → now ≡ told client deeds (record { link = client; act = event } ∷ old) → open_clients now ≤ connection_limit
-  due_within (Accepted peer local) sound failed before after due gains = arrives_within peer local due.1 gains
-  due_within Readable sound failed before after due gains = stays_within Readable (own client old) refl refl (read_none before after (own client old) (own client now) due.1) gains
-  due_within Writable sound failed before after due gains = stays_within Writable (own client old) refl refl (write_none sound failed before after (own client old) (own client now) due) gains
-  due_within (Read asked bytes) sound failed before after due gains = absurd due
-  due_within ReadEnd sound failed before after due gains = absurd due
-  due_within (NotYet way) sound failed before after due gains = absurd due
-  due_within (Failed way) sound failed before after due gains = absurd due
-  due_within (Wrote offered bytes) sound failed before after due gains = absurd due
-  due_within (Connect owner to link) sound failed before after due gains = absurd due
-  due_within (Close e) sound failed before after due gains = absurd due
+  due_within (Accepted peer local) unread sound failed before after due gains = arrives_within peer local due.1 gains
+  due_within Readable unread sound failed before after due gains = stays_within Readable (own client old) refl refl (read_none before after (own client old) (own client now) due.1) gains
+  due_within Writable unread sound failed before after due gains = stays_within Writable (own client old) refl refl (write_none sound failed before after (own client old) (own client now) due) gains
+  due_within (Read asked bytes) unread sound failed before after due gains = absurd due
+  due_within ReadEnd unread sound failed before after due gains = absurd due
+  due_within (NotYet way) unread sound failed before after due gains = absurd due
+  due_within (Failed way) unread sound failed before after due gains = absurd due
+  due_within (Wrote offered bytes) unread sound failed before after due gains = absurd due
+  due_within (Connect owner to link) unread sound failed before after due gains = absurd due
+  due_within (Close e) unread sound failed before after due gains = absurd due
 
 turn_within : (site : Site) (event : Act) (link : ℕ) (parts : List Part) (before after : Seen) (old now : List Entry) → now ≡ all_told parts (record { link = link; act = event } ∷ old) → DueParts site event link parts before after old now
     → open_clients old ≤ connection_limit → open_clients now ≤ connection_limit
 turn_within site event link [] before after old now gains due within = absurd due
 turn_within site event link (p ∷ []) before after old now gains due within =
-    due_within p.client p.deeds old now due.1 within event _ _ _ _ due.2 (gains ∙ ap (λ (l : ℕ). told p.client p.deeds (record { link = l; act = event } ∷ old)) (sym due.0))
+    due_within p.client p.deeds old now due.1 within event _ _ _ _ _ due.2 (gains ∙ ap (λ (l : ℕ). told p.client p.deeds (record { link = l; act = event } ∷ old)) (sym due.0))
 turn_within site event link (p ∷ q ∷ parts) before after old now gains due within = absurd due
 
 -- a run never opens more clients than the limit

@@ -12,7 +12,7 @@ use Rattle.server_model.specs.Request.{Head, Request, Unfinished, Refused, Open,
 use Rattle.server_model.specs.World.{World, call_count}
 use Rattle.server_model.specs.Reply.{Whole, Reply, continue_of, reply}
 use Rattle.server_model.specs.Stream.{is_whole, is_followed, Passed, reply_at, left_after, replies_to}
-use Rattle.server_model.specs.Client.{IsPlanned, AskedInTurn}
+use Rattle.server_model.specs.Client.{IsPlanned, AskedInTurn, AskedWhole, request_at}
 use Rattle.chunkqueue.specs.Items.{Item, bytes_of, item_byte, Shows}
 use Rattle.server_model.specs.Held.{Stage, Awaiting, Heading, Taking, Asking, Answering, Held}
 use Rattle.server_model.specs.Steps.{arrived, received, received_end, has_no_items, took, staged, without_file, is_read_at}
@@ -63,18 +63,27 @@ pub complete_stays : (limits : Limits) (bytes more : List ℕ) → is_complete (
 complete_stays limits bytes more is = let h = complete_head (request_of limits bytes) is in complete_grows limits bytes more h.0 h.1 h.2 ∙ sym h.2
 
 module _ (world : World) (acts others : List Act) where
+  same_request : (more : List ℕ) → input_of others ≡ input_of acts ++ more → (k : ℕ) → IsPlanned world acts k → request_at world others k ≡ request_at world acts k
+  same_request more input k p =
+      ap (λ (l : List ℕ). request_of (limit_for world) (left_after (limit_for world) k l)) input ∙ ap (request_of (limit_for world)) (left_grows world (input_of acts) k p.before p.passed more)
+      ∙ complete_stays (limit_for world) (left_after (limit_for world) k (input_of acts)) more p.whole
+
   -- what was planned still is, after further bytes came or were taken
   planned_grows : (more out : List ℕ) → input_of others ≡ input_of acts ++ more → output_of others ≡ output_of acts ++ out → (k : ℕ) → IsPlanned world acts k → IsPlanned world others k
   planned_grows more out input output k p = record {
     before = p.before;
     passed = subst (λ (l : List ℕ). Passed k (replies_to world l) p.before) (sym input) (passed_grows world (input_of acts) k p.before p.passed more);
     taken = (p.taken.0 ++ out, sym (append_assoc p.before p.taken.0 out) ∙ ap (λ l. l ++ out) p.taken.1 ∙ sym output);
-    whole = ap (λ (l : List ℕ). is_complete (request_of (limit_for world) (left_after (limit_for world) k l))) input ∙ ap (λ l. is_complete (request_of (limit_for world) l)) (left_grows world (input_of acts) k p.before p.passed more)
-        ∙ ap is_complete (complete_stays (limit_for world) (left_after (limit_for world) k (input_of acts)) more p.whole) ∙ p.whole;
+    whole = ap is_complete (same_request more input k p) ∙ p.whole;
+    within = λ head content is. p.within head content (sym (same_request more input k p) ∙ is);
   }
 
   pub turn_grows : (more out : List ℕ) → input_of others ≡ input_of acts ++ more → output_of others ≡ output_of acts ++ out → AskedInTurn world acts → AskedInTurn world others
   turn_grows more out input output h k what some = planned_grows more out input output k (h k what some)
+
+  -- and what was asked for it is still just that
+  pub asked_grows : (more : List ℕ) → input_of others ≡ input_of acts ++ more → AskedInTurn world acts → ((k : ℕ) (what : FileCall) → 0 < call_count world k what → AskedWhole world acts k) → (k : ℕ) (what : FileCall) → 0 < call_count world k what → AskedWhole world others k
+  asked_grows more input turn asked k what some head content is = asked k what some head content (sym (same_request more input k (turn k what some)) ∙ is)
 
   pub turn_same : input_of others ≡ input_of acts → output_of others ≡ output_of acts → AskedInTurn world acts → AskedInTurn world others
   turn_same input output = turn_grows [] [] (input ∙ sym (append-nil (input_of acts))) (output ∙ sym (append-nil (output_of acts)))
@@ -169,6 +178,7 @@ arrives opened world link peer local unasked = record {
   at = record { passed = refl; input = refl; owed = refl; staged = refl; file = refl };
   in_turn = λ k what some. absurd (omega (arith, some, unasked k what));
   unasked = λ k what past. unasked k what;
+  asked = λ k what some. absurd (omega (arith, some, unasked k what));
 }
 
 module _ (opened : Table) (world : World) (held : Held) (acts : List Act) (m : Matches opened world held acts) where
@@ -182,6 +192,7 @@ module _ (opened : Table) (world : World) (held : Held) (acts : List Act) (m : M
     at = at_as opened opened world held held acts (NotYet way ∷ acts) refl refl refl refl refl (λ e. e) refl held.stage m.at;
     in_turn = turn_same world acts (NotYet way ∷ acts) refl refl m.in_turn;
     unasked = m.unasked;
+    asked = m.asked;
   }
 
   -- the end came
@@ -194,6 +205,7 @@ module _ (opened : Table) (world : World) (held : Held) (acts : List Act) (m : M
     at = at_as opened opened world held (received_end held) acts (ReadEnd ∷ acts) refl refl refl refl refl (λ e. e) refl held.stage m.at;
     in_turn = turn_same world acts (ReadEnd ∷ acts) refl refl m.in_turn;
     unasked = m.unasked;
+    asked = m.asked;
   }
 
   -- its file is given back, where other opened files give what is owed too
@@ -206,6 +218,7 @@ module _ (opened : Table) (world : World) (held : Held) (acts : List Act) (m : M
     at = at_as opened others world held (without_file held) acts acts refl refl refl refl refl (λ e. refl) same held.stage m.at;
     in_turn = m.in_turn;
     unasked = m.unasked;
+    asked = m.asked;
   }
 
 -- bytes came
@@ -271,6 +284,7 @@ module _ (opened : Table) (world : World) (held : Held) (acts : List Act) (asked
     at = at_received held.stage is w m.at;
     in_turn = turn_grows world acts (Read asked bytes ∷ acts) bytes [] refl (sym (append-nil (output_of acts))) m.in_turn;
     unasked = m.unasked;
+    asked = asked_grows world acts (Read asked bytes ∷ acts) bytes refl m.in_turn m.asked;
   }
 
 module _ (opened : Table) (world : World) (held : Held) (acts : List Act) where
@@ -326,6 +340,7 @@ module _ (opened : Table) (world : World) (held : Held) (acts : List Act) where
       at = at_took held.stage some m.at;
       in_turn = turn_grows world acts (Wrote offered bytes ∷ acts) [] bytes (sym (append-nil (input_of acts))) refl m.in_turn;
       unasked = m.unasked;
+      asked = m.asked;
     }
 
   -- the front is read from its file
@@ -341,4 +356,4 @@ module _ (opened : Table) (world : World) (held : Held) (acts : List Act) where
     at_staged (Answering k last) some at = record { before = at.before; taken = at.taken; passed = at.passed; output = at.output; owed = at.owed; shows = shows; whole = at.whole; last_is = at.last_is; input = at.input }
 
     pub matches_staged : Matches opened world held acts → 0 < length held.owed → Matches opened world (staged held bytes) acts
-    matches_staged m some = record { is_open = m.is_open; sound = m.sound; came = m.came; ended = m.ended; at = at_staged held.stage some m.at; in_turn = m.in_turn; unasked = m.unasked }
+    matches_staged m some = record { is_open = m.is_open; sound = m.sound; came = m.came; ended = m.ended; at = at_staged held.stage some m.at; in_turn = m.in_turn; unasked = m.unasked; asked = m.asked }

@@ -1,24 +1,53 @@
 -- What each answer of find and open plans.
-use Rattle.std.proofs.Common.{◌≡◌, ℕ, zero, suc, ◌+◌, ◌≤◌, List, [], ◌∷◌, ◌++◌, length, map, Bool, true, false, Option, Some, None, refl, ◌∙◌, ap, arith}
+use Rattle.std.proofs.Common.{◌≡◌, ℕ, zero, suc, ◌+◌, ◌≤◌, List, [], ◌∷◌, ◌++◌, length, map, Bool, true, false, Option, Some, None, refl, sym, ◌∙◌, ap, subst, arith}
 use Rattle.std.proofs.lemmas.List.{map-append}
 use Rattle.std.proofs.Math.Seq.{take-length}
+use Rattle.lt_world.specs.declared.files.FileCall.{FileCall}
 use Rattle.lt_world.specs.declared.files.FileCall.TheVariants as call
 use Rattle.lt_world.specs.declared.net.Owner.{Owner}
 use Rattle.lt_world.specs.Disk.{Disk, Node, Table, Missing, Directory, File, asked, opened, released}
-use Rattle.server_model.specs.Settings.{settings_at}
+use Rattle.server_model.specs.Settings.{Settings, settings_at}
 use Rattle.server_model.specs.Site.{Site}
 use Rattle.server_model.specs.Request.{Head}
 use Rattle.server_model.specs.World.{Arrival, Side, World, world_at, call_count, has_failed_call, with_call}
-use Rattle.server_model.specs.Plan.{Outcome, error_outcome, file_outcome, is_served, Nowhere, sought_by, outcome, plan}
+use Rattle.server_model.specs.Plan.{Outcome, error_outcome, file_outcome, is_served, Sought, Fault, Nowhere, Found, sought_by, sought, places_of, outcome, plan, finds_by, opens_by, calls_of}
 use Rattle.server_model.specs.Reply.{reply}
 use Rattle.chunkqueue.specs.Items.{Item, Byte, bytes_of, item_byte, range}
 use Rattle.server_model.specs.Files.{AllFit}
-use Rattle.server_model.specs.Planning.{CallsFor, PlansTo, PlansError, PlansFile}
-use Rattle.server_model.proofs.Calls.{asked_is, count_other, find_failed, unopened, open_failed, find_stays}
-use Rattle.server_model.proofs.Growing.{reply_other}
+use Rattle.server_model.specs.Planning.{Unasked, CallsFor, CallsWhole, PlansTo, PlansError, PlansFile}
+use Rattle.server_model.proofs.Calls.{asked_is, count_other, count_more, find_failed, unopened, open_failed, find_stays}
+use Rattle.server_model.proofs.Growing.{reply_other, calls_other}
 use Rattle.server_model.proofs.FileSteps.{same_files, asks_file, opens_file, and_then, drops}
 use Rattle.lt_world.proofs.Disks.{opened_own}
 use Rattle.chunkqueue.proofs.Ranges.{bytes_of-range}
+
+-- with one place there is one find
+one_find : (failed : Bool) (node : Node) → finds_by failed node 0 ≡ 1
+one_find true node = refl
+one_find false Missing = refl
+one_find false Directory = refl
+one_find false (File bytes time) = refl
+
+-- where an error is planned and no open failed, none was made
+none_opened : (s : Sought) (served : Bool) (settings : Settings) (status : ℕ) → outcome settings s false served ≡ error_outcome settings status → opens_by s served ≡ 0
+none_opened Fault served settings status is = refl
+none_opened Nowhere served settings status is = refl
+none_opened (Found bytes) false settings status is = refl
+none_opened (Found bytes) true settings status is = absurd (cc (ap (λ (o : Outcome). o.content) is))
+
+-- the calls of a plan that made a find, and of one that opened as well
+abbrev one_call : FileCall → ℕ
+one_call call.Find = 1
+one_call call.Open = 0
+one_call call.Read = 0
+
+abbrev two_calls : FileCall → ℕ
+two_calls call.Find = 1
+two_calls call.Open = 1
+two_calls call.Read = 0
+
+less_same : (a b : ℕ) → a ≡ b → a ≤ b
+less_same a b is = omega (arith, is)
 
 module _ (site : Site) (client k : ℕ) (head : Head) (owner : Owner) (conn : owner.conn ≡ client) (request : owner.request ≡ k) (before : Disk) where
   abbrev path : List ℕ
@@ -35,18 +64,42 @@ module _ (site : Site) (client k : ℕ) (head : Head) (owner : Owner) (conn : ow
   world side = world_at site before client side
 
   -- nothing was asked, for want of memory
-  pub calls_none : CallsFor site client k None before before
-  calls_none = record { files = same_files client before None; others = λ side j what apart. refl; replies = λ side j r apart. refl }
+  pub calls_none : CallsFor site client k head None before before
+  calls_none = record {
+    files = same_files client before None;
+    others = λ side j what apart. refl;
+    replies = λ side j r apart. refl;
+    plans = λ side j other what apart. refl;
+    within = λ side none what. omega (arith, none what);
+  }
 
   find_world : (side : Side) (failed : Bool) → world_at site (after_find failed) client side ≡ with_call call.Find k failed (world side)
   find_world side failed = asked_is site before client k side call.Find owner failed conn request
 
+  abbrev found_world : Side → Bool → World
+  found_world side failed = world_at site (after_find failed) client side
+
+  find_counts : (side : Side) (failed : Bool) → Unasked (world side) k → (what : FileCall) → call_count (found_world side failed) k what ≡ one_call what
+  find_counts side failed none what = ap (λ (w : World). call_count w k what) (find_world side failed) ∙ by what
+    where
+      by : (what : FileCall) → call_count (with_call call.Find k failed (world side)) k what ≡ one_call what
+      by call.Find = count_more (world side) k call.Find failed refl ∙ ap (λ (n : ℕ). n + 1) (none call.Find)
+      by call.Open = none call.Open
+      by call.Read = none call.Read
+
+  find_within : (side : Side) (failed : Bool) (what : FileCall) → one_call what ≤ calls_of (found_world side failed) k head what
+  find_within side failed call.Find = less_same 1 (calls_of (found_world side failed) k head call.Find) (sym (one_find (has_failed_call (found_world side failed) k call.Find 0) (before.tree (site.root ++ path))))
+  find_within side failed call.Open = omega arith
+  find_within side failed call.Read = omega arith
+
   -- a find
-  pub calls_find : (failed : Bool) → CallsFor site client k None before (asked call.Find owner failed before)
+  pub calls_find : (failed : Bool) → CallsFor site client k head None before (asked call.Find owner failed before)
   calls_find failed = record {
     files = asks_file client before None call.Find owner failed conn;
     others = λ side j what apart. ap (λ (w : World). call_count w j what) (find_world side failed) ∙ count_other (world side) k call.Find failed j what apart;
     replies = λ side j r apart. ap (λ (w : World). reply w j r) (find_world side failed) ∙ reply_other (world side) call.Find k j failed apart r;
+    plans = λ side j other what apart. ap (λ (w : World). calls_of w j other what) (find_world side failed) ∙ calls_other (world side) call.Find k j failed apart other what;
+    within = λ side none what. subst (λ (n : ℕ). n ≤ calls_of (found_world side failed) k head what) (sym (find_counts side failed none what)) (find_within side failed what);
   }
 
   -- a plan, by what its find and its open told
@@ -60,9 +113,18 @@ module _ (site : Site) (client k : ℕ) (head : Head) (owner : Owner) (conn : ow
       → PlansError status site arrival client k head before (asked call.Find owner failed before)
   plans_found arrival status failed out = record {
     calls = calls_find failed;
-    plans = λ side came finds opens. plan_at (world_at site (after_find failed) client side) (with_call call.Find k failed (world side)) (error_outcome (settings_at site arrival (Some head)) status) failed false arrival refl came (find_world side failed)
-        (find_failed (world side) k 0 failed finds) (unopened (world side) k 0 failed opens) out;
+    whole = λ side none what. find_counts side failed none what ∙ sym (by side none what);
+    plans = λ side came none. plan_at (world_at site (after_find failed) client side) (with_call call.Find k failed (world side)) (error_outcome (settings_at site arrival (Some head)) status) failed false arrival refl came (find_world side failed)
+        (find_failed (world side) k 0 failed (none call.Find)) (unopened (world side) k 0 failed (none call.Open)) out;
   }
+    where
+      by : (side : Side) → Unasked (world side) k → (what : FileCall) → calls_of (found_world side failed) k head what ≡ one_call what
+      by side none call.Find = one_find (has_failed_call (found_world side failed) k call.Find 0) (before.tree (site.root ++ path))
+      by side none call.Open =
+          ap (λ (w : World). opens_by (sought w k 0 (places_of site head)) (is_served head.method)) (find_world side failed)
+          ∙ ap (λ (b : Bool). opens_by (sought_by b (before.tree (site.root ++ path)) Nowhere) (is_served head.method)) (find_failed (world side) k 0 failed (none call.Find))
+          ∙ none_opened (sought_by failed (before.tree (site.root ++ path)) Nowhere) (is_served head.method) (settings_at site arrival (Some head)) status out
+      by side none call.Read = refl
 
   pub plans_find_failed : (arrival : Option Arrival) → PlansError 500 site arrival client k head before (asked call.Find owner true before)
   plans_find_failed arrival = plans_found arrival 500 true refl
@@ -80,31 +142,51 @@ module _ (site : Site) (client k : ℕ) (head : Head) (owner : Owner) (conn : ow
   open_world : (side : Side) (failed : Bool) → world_at site (after_open failed) client side ≡ with_call call.Open k failed (with_call call.Find k false (world side))
   open_world side failed = asked_is site (after_find false) client k side call.Open owner failed conn request ∙ ap (with_call call.Open k failed) (find_world side false)
 
-  -- a find, and an open
-  calls_open : (failed : Bool) → CallsFor site client k None before (after_open failed)
-  calls_open failed = record {
+  -- a find, and an open of the file that stands there
+  whole_open : (failed : Bool) (bytes : List ℕ) (time : ℕ) → before.tree (site.root ++ path) ≡ File bytes time → is_served head.method ≡ true → CallsWhole site client k head before (after_open failed)
+  whole_open failed bytes time is served side none what = ap (λ (w : World). call_count w k what) (open_world side failed) ∙ counts what ∙ sym (by what)
+    where
+      counts : (what : FileCall) → call_count (with_call call.Open k failed (with_call call.Find k false (world side))) k what ≡ two_calls what
+      counts call.Find = count_more (world side) k call.Find false refl ∙ ap (λ (n : ℕ). n + 1) (none call.Find)
+      counts call.Open = count_more (with_call call.Find k false (world side)) k call.Open failed refl ∙ ap (λ (n : ℕ). n + 1) (none call.Open)
+      counts call.Read = none call.Read
+
+      by : (what : FileCall) → calls_of (world_at site (after_open failed) client side) k head what ≡ two_calls what
+      by call.Find = one_find (has_failed_call (world_at site (after_open failed) client side) k call.Find 0) (before.tree (site.root ++ path))
+      by call.Open =
+          ap (λ (w : World). opens_by (sought w k 0 (places_of site head)) (is_served head.method)) (open_world side failed)
+          ∙ (λ i. opens_by (sought_by (find_stays (world side) k 0 false failed (none call.Find) i) (is i) Nowhere) (served i))
+      by call.Read = refl
+
+  calls_open : (failed : Bool) (bytes : List ℕ) (time : ℕ) → before.tree (site.root ++ path) ≡ File bytes time → is_served head.method ≡ true → CallsFor site client k head None before (after_open failed)
+  calls_open failed bytes time is served = record {
     files = and_then client None None None before (after_find false) (after_open failed) (asks_file client before None call.Find owner false conn) (asks_file client (after_find false) None call.Open owner failed conn);
     others = λ side j what apart. ap (λ (w : World). call_count w j what) (open_world side failed) ∙ count_other (with_call call.Find k false (world side)) k call.Open failed j what apart ∙ count_other (world side) k call.Find false j what apart;
     replies = λ side j r apart. ap (λ (w : World). reply w j r) (open_world side failed) ∙ reply_other (with_call call.Find k false (world side)) call.Open k j failed apart r ∙ reply_other (world side) call.Find k j false apart r;
+    plans = λ side j other what apart. ap (λ (w : World). calls_of w j other what) (open_world side failed) ∙ calls_other (with_call call.Find k false (world side)) call.Open k j failed apart other what ∙ calls_other (world side) call.Find k j false apart other what;
+    within = λ side none what. less_same (call_count (world_at site (after_open failed) client side) k what) (calls_of (world_at site (after_open failed) client side) k head what) (whole_open failed bytes time is served side none what);
   }
 
   plans_opened : (arrival : Option Arrival) (o : Outcome) (failed : Bool) (node : Node) → before.tree (site.root ++ path) ≡ node → is_served head.method ≡ true → outcome (settings_at site arrival (Some head)) (sought_by false node Nowhere) failed true ≡ o → PlansTo o site arrival client k head before (after_open failed)
-  plans_opened arrival o failed node is served out side came finds opens =
-      plan_at (world_at site (after_open failed) client side) (with_call call.Open k failed (with_call call.Find k false (world side))) o false failed arrival refl came (open_world side failed) (find_stays (world side) k 0 false failed finds) (open_failed (world side) k 0 false failed opens)
+  plans_opened arrival o failed node is served out side came none =
+      plan_at (world_at site (after_open failed) client side) (with_call call.Open k failed (with_call call.Find k false (world side))) o false failed arrival refl came (open_world side failed) (find_stays (world side) k 0 false failed (none call.Find)) (open_failed (world side) k 0 false failed (none call.Open))
       ((λ i. outcome (settings_at site arrival (Some head)) (sought_by false (is i) Nowhere) failed (served i)) ∙ out)
 
   pub plans_open_failed : (arrival : Option Arrival) (bytes : List ℕ) (time : ℕ) → before.tree (site.root ++ path) ≡ File bytes time → is_served head.method ≡ true → PlansError 500 site arrival client k head before (asked call.Open owner true (asked call.Find owner false before))
-  plans_open_failed arrival bytes time is served = record { calls = calls_open true; plans = plans_opened arrival (error_outcome (settings_at site arrival (Some head)) 500) true (File bytes time) is served refl }
+  plans_open_failed arrival bytes time is served = record { calls = calls_open true bytes time is served; whole = whole_open true bytes time is served; plans = plans_opened arrival (error_outcome (settings_at site arrival (Some head)) 500) true (File bytes time) is served refl }
 
   -- the file is opened
   pub plans_file : (arrival : Option Arrival) (file size time : ℕ) (bytes : List ℕ) → before.tree (site.root ++ path) ≡ File bytes time → is_served head.method ≡ true → length bytes ≡ size → before.table file ≡ None
       → PlansFile file size site arrival client k head before (opened file bytes (asked call.Open owner false (asked call.Find owner false before)))
   plans_file arrival file size time bytes is served len fresh = record {
     calls = record {
-      files = and_then client None None (Some file) before (after_open false) (opened file bytes (after_open false)) (calls_open false).files (opens_file client (after_open false) file bytes fresh);
-      others = (calls_open false).others;
-      replies = (calls_open false).replies;
+      files = and_then client None None (Some file) before (after_open false) (opened file bytes (after_open false)) (calls_open false bytes time is served).files (opens_file client (after_open false) file bytes fresh);
+      others = (calls_open false bytes time is served).others;
+      replies = (calls_open false bytes time is served).replies;
+      plans = (calls_open false bytes time is served).plans;
+      within = (calls_open false bytes time is served).within;
     };
+    whole = whole_open false bytes time is served;
     bytes = bytes;
     opened = opened_own file bytes before.table;
     has_size = len;
@@ -138,12 +220,17 @@ module _ (site : Site) (client k : ℕ) (head : Head) (file : ℕ) (before betwe
   same_world : (side : Side) → world_at site after client side ≡ world_at site between client side
   same_world side = ap (λ (d : Disk). world_at site d client side) same
 
-  pub release_calls : CallsFor site client k (Some file) before between → CallsFor site client k None before after
+  pub release_calls : CallsFor site client k head (Some file) before between → CallsFor site client k head None before after
   release_calls calls = record {
     files = and_then client None (Some file) None before between after calls.files (drops client between after (Some file) same);
     others = λ side j what apart. ap (λ (w : World). call_count w j what) (same_world side) ∙ calls.others side j what apart;
     replies = λ side j r apart. ap (λ (w : World). reply w j r) (same_world side) ∙ calls.replies side j r apart;
+    plans = λ side j other what apart. ap (λ (w : World). calls_of w j other what) (same_world side) ∙ calls.plans side j other what apart;
+    within = λ side none what. subst (λ (w : World). call_count w k what ≤ calls_of w k head what) (sym (same_world side)) (calls.within side none what);
   }
 
+  pub release_whole : CallsWhole site client k head before between → CallsWhole site client k head before after
+  release_whole whole side none what = subst (λ (w : World). call_count w k what ≡ calls_of w k head what) (sym (same_world side)) (whole side none what)
+
   pub release_plans : (o : Outcome) (arrival : Option Arrival) → PlansTo o site arrival client k head before between → PlansTo o site arrival client k head before after
-  release_plans o arrival plans side came finds opens = ap (λ (w : World). plan w k head) (same_world side) ∙ plans side came finds opens
+  release_plans o arrival plans side came none = ap (λ (w : World). plan w k head) (same_world side) ∙ plans side came none

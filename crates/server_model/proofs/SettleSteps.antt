@@ -1,5 +1,5 @@
 -- What follows a read or a write of a client: its request is taken up and answered, it is closed, or it rests.
-use Rattle.std.proofs.Common.{◌≡◌, ℕ, if◌then◌else◌, drop, List, [], ◌∷◌, ◌++◌, map, Bool, true, false, Option, Some, None, refl, sym, ◌∙◌, ap, subst, arith}
+use Rattle.std.proofs.Common.{◌≡◌, ◌≤◌, ℕ, if◌then◌else◌, drop, List, [], ◌∷◌, ◌++◌, map, Bool, true, false, Option, Some, None, refl, sym, ◌∙◌, ap, subst, arith}
 use Rattle.lt_world.specs.declared.net.Ending.{Ending}
 use Rattle.lt_world.specs.declared.net.Ending.TheVariants as ending
 use Rattle.lt_world.specs.declared.files.FileCall.{FileCall}
@@ -10,20 +10,20 @@ use Rattle.server_model.specs.Settings.{settings_at, limit_for, is_last_request}
 use Rattle.server_model.specs.Site.{Site}
 use Rattle.server_model.specs.Request.{Head, Complete, Refused, Declined}
 use Rattle.server_model.specs.World.{World, world_of, call_count, Arrival, side_of}
-use Rattle.server_model.specs.Plan.{Outcome, is_head, plan}
+use Rattle.server_model.specs.Plan.{Outcome, is_head, plan, calls_of}
 use Rattle.server_model.specs.Reply.{continue_bytes, continue_of, final_bytes, refusal_bytes}
 use Rattle.server_model.specs.Client.{AskedInTurn, IsFinished, IsRight}
 use Rattle.chunkqueue.specs.Items.{Item, Byte, FileByte, bytes_of}
 use Rattle.server_model.specs.Held.{Heading, Asking, Held, arrival_of}
 use Rattle.server_model.specs.Steps.{number_of, has_no_items, advanced, accepted, answered, wrote, took, without_file, is_in_memory, is_done}
 use Rattle.server_model.specs.Files.{AllFit, Fits, FileStep, Drops}
-use Rattle.server_model.specs.Planning.{CallsFor, PlansTo}
+use Rattle.server_model.specs.Planning.{Unasked, CallsFor, CallsWhole, PlansTo}
 use Rattle.server_model.specs.Serves.{IsAsking, IsAt, first_unasked, IsWaiting, Matches, Stands}
 use Rattle.server_model.specs.Settling.{SettlesOn, SettlesOut, MayEnd, SettlesTo}
 use Rattle.server_model.proofs.FileSteps.{same_files, drops, and_then, items_alone}
 use Rattle.server_model.proofs.Clients.{IsSettled, IsFreed, given_back, advanced_link, advanced_file, accepted_stays, accepted_link, accepted_file}
 use Rattle.server_model.proofs.Moves.{matches_released}
-use Rattle.server_model.proofs.Advances.{matches_advanced, matches_accepted, asks_other, matches_planned, matches_answered}
+use Rattle.server_model.proofs.Advances.{matches_advanced, matches_accepted, asks_other, by_head, asked_planned, matches_planned, matches_answered}
 use Rattle.server_model.proofs.Settled.{at_prefix}
 use Rattle.server_model.proofs.Standing.{matches_right, matches_finished, matches_stands}
 use Rattle.server_model.proofs.Sides.{came_side}
@@ -124,49 +124,57 @@ accept_then may site held new files before after result limit same settles = set
     result settles
 
 module _ (site : Site) (held : Held) (before between : Disk) (past : List Deed) (head : Head) (content : List ℕ) (file : Option ℕ) (asking : held.stage ≡ Asking (number_of held.stage) (Complete head content)) where
-  planned_turn : CallsFor site held.link (number_of held.stage) file before between → Matches before.table (world_of site before held.link past) held (ours past) → AskedInTurn (world_of site between held.link past) (ours past)
-  planned_turn calls m = matches_planned before.table between.table (world_of site before held.link past) (world_of site between held.link past) held (ours past) (number_of held.stage) (Complete head content) asking refl (calls.others (side_of past)) (calls.replies (side_of past)) refl m
+  none_asked : Matches before.table (world_of site before held.link past) held (ours past) → Unasked (world_of site before held.link past) (number_of held.stage)
+  none_asked m what = m.unasked (number_of held.stage) what (omega (arith, ap first_unasked asking))
+
+  planned_turn : CallsFor site held.link (number_of held.stage) head file before between → Matches before.table (world_of site before held.link past) held (ours past) → AskedInTurn (world_of site between held.link past) (ours past)
+  planned_turn calls m = matches_planned before.table between.table (world_of site before held.link past) (world_of site between held.link past) held (ours past) (number_of held.stage) (Complete head content) asking refl (calls.others (side_of past)) (calls.replies (side_of past)) (calls.plans (side_of past)) refl
+      (λ h c is what. by_head before.table between.table (world_of site before held.link past) (world_of site between held.link past) held (ours past) (number_of held.stage) (Complete head content) asking refl (calls.others (side_of past)) (calls.replies (side_of past)) (calls.plans (side_of past)) head content refl
+      (λ (x : Head). call_count (world_of site between held.link past) (number_of held.stage) what ≤ calls_of (world_of site between held.link past) (number_of held.stage) x what) (calls.within (side_of past) (none_asked m) what) m h c is) m
 
   -- its request is being planned
-  pub calls_right : CallsFor site held.link (number_of held.stage) file before between → Matches before.table (world_of site before held.link past) held (ours past) → IsRight (world_of site between held.link past) (ours past)
+  pub calls_right : CallsFor site held.link (number_of held.stage) head file before between → Matches before.table (world_of site before held.link past) held (ours past) → IsRight (world_of site between held.link past) (ours past)
   calls_right calls m = record {
-    prefix = at_prefix before.table (world_of site between held.link past) held (ours past) (Asking (number_of held.stage) (Complete head content)) (asks_other before.table between.table (world_of site before held.link past) (world_of site between held.link past) held (ours past) (number_of held.stage) (Complete head content) asking refl (calls.others (side_of past)) (calls.replies (side_of past)) m);
+    prefix = at_prefix before.table (world_of site between held.link past) held (ours past) (Asking (number_of held.stage) (Complete head content)) (asks_other before.table between.table (world_of site before held.link past) (world_of site between held.link past) held (ours past) (number_of held.stage) (Complete head content) asking refl (calls.others (side_of past)) (calls.replies (side_of past)) (calls.plans (side_of past)) m);
     in_turn = planned_turn calls m;
   }
 
   -- what is owed of what it was told first is in memory
-  owed_stays : CallsFor site held.link (number_of held.stage) file before between → Fits before.table held → Matches before.table (world_of site before held.link past) held (ours past) → bytes_of between.table held.owed ≡ bytes_of before.table held.owed
+  owed_stays : CallsFor site held.link (number_of held.stage) head file before between → Fits before.table held → Matches before.table (world_of site before held.link past) held (ours past) → bytes_of between.table held.owed ≡ bytes_of before.table held.owed
   owed_stays calls fits m =
       let at : IsAsking before.table (world_of site before held.link past) held (ours past) (number_of held.stage) (Complete head content) = subst (IsAt before.table (world_of site before held.link past) held (ours past)) asking m.at in
       (items_alone before.table between.table held.file held.owed (λ f is. absurd (cc (at.file, is))) fits.owed).1
 
   -- it is answered as is planned
-  pub answer_by : (o : Outcome) (items : List Item) → CallsFor site held.link (number_of held.stage) file before between → PlansTo o site (Some (arrival_of held)) held.link (number_of held.stage) head before between
+  pub answer_by : (o : Outcome) (items : List Item) → CallsFor site held.link (number_of held.stage) head file before between → CallsWhole site held.link (number_of held.stage) head before between → PlansTo o site (Some (arrival_of held)) held.link (number_of held.stage) head before between
       → bytes_of between.table items ≡ final_bytes head (is_last_request o.settings.request_limit (number_of held.stage) head) o → Fits before.table held
       → Matches before.table (world_of site before held.link past) held (ours past) → Matches between.table (world_of site between held.link past) (answered held items file (is_last_request o.settings.request_limit (number_of held.stage) head)) (ours past)
-  answer_by o items calls plans is fits m =
-      let none : (what : FileCall) → call_count (world_of site before held.link past) (number_of held.stage) what ≡ 0 = λ what. m.unasked (number_of held.stage) what (omega (arith, ap first_unasked asking)) in
-      let planned : plan (world_of site between held.link past) (number_of held.stage) head ≡ o = plans (side_of past) (came_side held.peer held.local past m.came) (none call.Find) (none call.Open) in
-      matches_answered before.table between.table (world_of site before held.link past) (world_of site between held.link past) held (ours past) (number_of held.stage) (Complete head content) asking refl (calls.others (side_of past)) (calls.replies (side_of past))
-      items file (is_last_request o.settings.request_limit (number_of held.stage) head) (planned_turn calls m) refl (ap (λ (p : Outcome). is_last_request p.settings.request_limit (number_of held.stage) head) planned) (owed_stays calls fits m)
+  answer_by o items calls whole plans is fits m =
+      let planned : plan (world_of site between held.link past) (number_of held.stage) head ≡ o = plans (side_of past) (came_side held.peer held.local past m.came) (none_asked m) in
+      matches_answered before.table between.table (world_of site before held.link past) (world_of site between held.link past) held (ours past) (number_of held.stage) (Complete head content) asking refl (calls.others (side_of past)) (calls.replies (side_of past)) (calls.plans (side_of past))
+      items file (is_last_request o.settings.request_limit (number_of held.stage) head) (planned_turn calls m)
+      (asked_planned before.table between.table (world_of site before held.link past) (world_of site between held.link past) held (ours past) (number_of held.stage) (Complete head content) asking refl (calls.others (side_of past)) (calls.replies (side_of past)) (calls.plans (side_of past))
+      (λ h c here what. by_head before.table between.table (world_of site before held.link past) (world_of site between held.link past) held (ours past) (number_of held.stage) (Complete head content) asking refl (calls.others (side_of past)) (calls.replies (side_of past)) (calls.plans (side_of past)) head content refl
+      (λ (x : Head). call_count (world_of site between held.link past) (number_of held.stage) what ≡ calls_of (world_of site between held.link past) (number_of held.stage) x what) (whole (side_of past) (none_asked m) what) m h c here) m)
+      refl (ap (λ (p : Outcome). is_last_request p.settings.request_limit (number_of held.stage) head) planned) (owed_stays calls fits m)
       (ap (λ l. continue_of (limit_for (world_of site between held.link past)) head ++ l) (is ∙ ap (λ (p : Outcome). final_bytes head (is_last_request p.settings.request_limit (number_of held.stage) head) p) (sym planned))) m
 
 -- a refused head is answered, and a request whose body is refused
 module _ (site : Site) (held : Held) (disk : Disk) (past : List Deed) (status : ℕ) (items : List Item) where
   pub refuse_by : held.stage ≡ Asking (number_of held.stage) (Refused status) → bytes_of disk.table items ≡ refusal_bytes (settings_at site (Some (arrival_of held)) None) 1 status false
       → Matches disk.table (world_of site disk held.link past) held (ours past) → Matches disk.table (world_of site disk held.link past) (answered held items None true) (ours past)
-  refuse_by asking is m = matches_answered disk.table disk.table (world_of site disk held.link past) (world_of site disk held.link past) held (ours past) (number_of held.stage) (Refused status) asking refl (λ j what apart. refl) (λ j q apart. refl) items None true m.in_turn refl refl refl
+  refuse_by asking is m = matches_answered disk.table disk.table (world_of site disk held.link past) (world_of site disk held.link past) held (ours past) (number_of held.stage) (Refused status) asking refl (λ j what apart. refl) (λ j q apart. refl) (λ j h what apart. refl) items None true m.in_turn m.asked refl refl refl
       (is ∙ ap (λ (a : Option Arrival). refusal_bytes (settings_at site a None) 1 status false) (sym (came_side held.peer held.local past m.came))) m
 
   pub decline_by : (head : Head) → held.stage ≡ Asking (number_of held.stage) (Declined status head) → bytes_of disk.table items ≡ refusal_bytes (settings_at site (Some (arrival_of held)) (Some head)) head.minor status (is_head head.method)
       → Matches disk.table (world_of site disk held.link past) held (ours past) → Matches disk.table (world_of site disk held.link past) (answered held items None true) (ours past)
-  decline_by head asking is m = matches_answered disk.table disk.table (world_of site disk held.link past) (world_of site disk held.link past) held (ours past) (number_of held.stage) (Declined status head) asking refl (λ j what apart. refl) (λ j q apart. refl) items None true m.in_turn refl refl refl
+  decline_by head asking is m = matches_answered disk.table disk.table (world_of site disk held.link past) (world_of site disk held.link past) held (ours past) (number_of held.stage) (Declined status head) asking refl (λ j what apart. refl) (λ j q apart. refl) (λ j h what apart. refl) items None true m.in_turn m.asked refl refl refl
       (ap (λ l. continue_of (limit_for (world_of site disk held.link past)) head ++ l)
       (is ∙ ap (λ (a : Option Arrival). refusal_bytes (settings_at site a (Some head)) head.minor status (is_head head.method)) (sym (came_side held.peer held.local past m.came)))) m
 
 -- memory is wanted for its plan, for which calls may have been made
 pub plan_yields : (site : Site) (held new : Held) (files : Type 0) (before after : Disk) (head : Head) (content : List ℕ) (file : Option ℕ) → held.stage ≡ Asking (number_of held.stage) (Complete head content) → new.link ≡ held.link → held.file ≡ None → new.file ≡ file
-    → (files → CallsFor site held.link (number_of held.stage) file before after) → SettlesOut true site held new ending.NoMemory files before after
+    → (files → CallsFor site held.link (number_of held.stage) head file before after) → SettlesOut true site held new ending.NoMemory files before after
 plan_yields site held new files before after head content file asking link none new_file calls = record {
   allowed = refl;
   link = link;

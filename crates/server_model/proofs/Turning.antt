@@ -11,7 +11,7 @@ use Rattle.server_model.specs.Held.{Held, Serving, kept_at}
 use Rattle.server_model.specs.Files.{file_of, Fits, FitsFor, Backs, FileStep}
 use Rattle.server_model.specs.Serves.{Stands, IsGone, StandsFor, Serves}
 use Rattle.server_model.specs.Due.{Due, DueRead, DueWrite}
-use Rattle.server_model.specs.Turns.{Seen, ReadFailed, NoReadFailed, DueOn, Grows, open_with, StepsBy, TurnsOn}
+use Rattle.server_model.specs.Turns.{Seen, ReadFailed, ReadsNone, ReadsOne, DueOn, Grows, open_with, StepsBy, TurnsOn}
 use Rattle.server_model.proofs.Owned.{own-told}
 use Rattle.server_model.proofs.Frames.{frame, backs_on}
 use Rattle.server_model.proofs.Changing.{Changes, count_now}
@@ -89,7 +89,7 @@ module _ (event : Act) (ready : IsReady event)
           due = (
             refl,
             step.are,
-            subst (λ (d : List Deed). Due (open_clients trace) event (NoReadFailed before after) (λ k. ReadFailed held.link k before after) (world_of site before.disk held.link (own held.link trace)) (world_of site after.disk held.link d) (own held.link trace) d) (sym (own_now n trace gained))
+            subst (λ (d : List Deed). Due (open_clients trace) event (ReadsNone before after) (ReadsOne before after) (λ k. ReadFailed held.link k before after) (world_of site before.disk held.link (own held.link trace)) (world_of site after.disk held.link d) (own held.link trace) d) (sym (own_now n trace gained))
                 (both.1 (open_clients trace)),
           );
           grows = record { tree = (step.does f).tree; log = (step.does f).log; faults = rises };
@@ -101,13 +101,13 @@ grows_none seen = record { tree = refl; log = ([], refl); faults = omega arith }
 
 -- nothing is due for a link that isn't kept
 abbrev pub IsQuiet : Act → Type 0
-IsQuiet event = (client : ℕ) (seen : Seen) (world : World) (deeds : List Deed) → is_open (ours deeds) ≡ false → (open_now : ℕ) → Due open_now event (NoReadFailed seen seen) (λ k. ReadFailed client k seen seen) world world deeds deeds
+IsQuiet event = (client : ℕ) (seen : Seen) (world : World) (deeds : List Deed) → is_open (ours deeds) ≡ false → (open_now : ℕ) → Due open_now event (ReadsNone seen seen) (ReadsOne seen seen) (λ k. ReadFailed client k seen seen) world world deeds deeds
 
 pub readable_quiet : IsQuiet Readable
 readable_quiet client seen world deeds shut open_now = (refl, DueRead.idle (unwanted world (ours deeds) shut))
 
 pub writable_quiet : IsQuiet Writable
-writable_quiet client seen world deeds shut open_now = DueWrite.idle (unowing world (ours deeds) shut) refl
+writable_quiet client seen world deeds shut open_now = DueWrite.idle (unowing world (ours deeds) shut) (record { failed = refl; once = omega arith })
 
 pub none_gone : (link : ℕ) (disk : Disk) (server : Serving) (trace : List Entry) → kept_at link server.table ≡ None → Serves disk server trace → IsGone (world_of server.site disk link (own link trace)) (own link trace)
 none_gone link disk server trace none serves = let P : Option Held → Type 0 = λ k. StandsFor disk.table (world_of server.site disk link (own link trace)) k (own link trace) in subst P none (serves.each link)
@@ -125,7 +125,7 @@ turn_out event ready quiet link server net files seen old none n f trace gained 
         due = (
           refl,
           tt,
-          subst (λ (d : List Deed). Due (open_clients trace) event (NoReadFailed seen seen) (λ k. ReadFailed link k seen seen) (world_of server.site seen.disk link (own link trace)) (world_of server.site seen.disk link d) (own link trace) d) (sym same)
+          subst (λ (d : List Deed). Due (open_clients trace) event (ReadsNone seen seen) (ReadsOne seen seen) (λ k. ReadFailed link k seen seen) (world_of server.site seen.disk link (own link trace)) (world_of server.site seen.disk link d) (own link trace) d) (sym same)
               (quiet link seen (world_of server.site seen.disk link (own link trace)) (own link trace) (none_gone link seen.disk server trace none serves).shut (open_clients trace)),
         );
         grows = grows_none seen;

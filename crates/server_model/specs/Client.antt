@@ -1,5 +1,5 @@
 -- One client, by the acts of its link, the newest first, and by its world.
-use Rattle.std.specs.Prelude.{◌≡◌, ℕ, ◌<◌, List, [], ◌∷◌, ◌++◌, length, nat_lt, nat_le, Bool, true, false, not, ◌&&◌, Option, Some, None}
+use Rattle.std.specs.Prelude.{◌≡◌, ℕ, ◌<◌, ◌≤◌, List, [], ◌∷◌, ◌++◌, length, nat_lt, nat_le, Bool, true, false, not, ◌&&◌, Option, Some, None}
 use Rattle.lt_world.specs.declared.net.Address.{Address}
 use Rattle.lt_world.specs.declared.net.Ending.{Ending}
 use Rattle.lt_world.specs.declared.net.Ending.TheVariants as ending
@@ -7,8 +7,9 @@ use Rattle.lt_world.specs.declared.files.FileCall.{FileCall}
 use Rattle.lt_world.specs.Acts.{input_of, output_of, ending_of}
 use Rattle.lt_world.specs.Trace.{Act, Accepted, Read, ReadEnd, Failed, Wrote, Close}
 use Rattle.server_model.specs.Settings.{limit_for}
-use Rattle.server_model.specs.Request.{Limits, request_of, rest_of, is_complete}
+use Rattle.server_model.specs.Request.{Head, Request, Complete, Limits, request_of, rest_of, is_complete}
 use Rattle.server_model.specs.World.{World, call_count}
+use Rattle.server_model.specs.Plan.{calls_of}
 use Rattle.server_model.specs.Reply.{Extent, Growing, Whole, Reply}
 use Rattle.server_model.specs.Stream.{IsPrefix, is_whole, final, Place, place, remainder, Passed, left_after, replies_to, stream_of}
 use Rattle.server_model.specs.Deeds.{Deed, ours}
@@ -82,12 +83,25 @@ pub record IsFinished (world : World) (acts : List Act) : Type 0 where
   pub taken : output_of acts ≡ stream world acts
   pub over : is_end (final (replies_to world (input_of acts))).extent (final (replies_to world (input_of acts))).last (has_ended acts) ≡ true
 
--- request k came whole, and the replies before it were wholly taken
+-- the request that is whole after k others
+abbrev pub request_at : World → List Act → ℕ → Request
+request_at world acts k = request_of (limit_for world) (left_after (limit_for world) k (input_of acts))
+
+-- no calls on files were made for request k but those of its plan
+abbrev pub AskedWithin : World → List Act → ℕ → Type 0
+AskedWithin world acts k = (head : Head) (content : List ℕ) → request_at world acts k ≡ Complete head content → (what : FileCall) → call_count world k what ≤ calls_of world k head what
+
+-- exactly those of its plan were made
+abbrev pub AskedWhole : World → List Act → ℕ → Type 0
+AskedWhole world acts k = (head : Head) (content : List ℕ) → request_at world acts k ≡ Complete head content → (what : FileCall) → call_count world k what ≡ calls_of world k head what
+
+-- request k came whole, the replies before it were wholly taken, and it asked for no more than its plan names
 pub record IsPlanned (world : World) (acts : List Act) (k : ℕ) : Type 0 where
   pub before : List ℕ
   pub passed : Passed k (replies_to world (input_of acts)) before
   pub taken : IsPrefix before (output_of acts)
-  pub whole : is_complete (request_of (limit_for world) (left_after (limit_for world) k (input_of acts))) ≡ true
+  pub whole : is_complete (request_at world acts k) ≡ true
+  pub within : AskedWithin world acts k
 
 -- calls on files were made for such requests alone
 abbrev pub AskedInTurn : World → List Act → Type 0

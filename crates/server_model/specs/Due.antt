@@ -76,9 +76,9 @@ pub data DueWrite (sound : Type 0) (failed : ℕ → Type 0) (before after : Wor
       → Settles after (may_want_after_write (owed before (ours past)) act) (Ours act ∷ past) now → DueWrite sound failed before after past now
   faults : owes before (ours past) ≡ true → failed (current before (ours past)).number → DueWrite sound failed before after past (Ours (Close ending.FileFault) ∷ past)
 
--- what must follow an event of a client, while so many clients are open; `sound` says that no read of a file failed in this turn, and `failed` for which request one did
-abbrev pub Due : ℕ → Act → Type 0 → (ℕ → Type 0) → World → World → List Deed → List Deed → Type 0
-Due open_now (Accepted peer local) sound failed before after past now = sound × DueArrival open_now peer local past now
-Due open_now Readable sound failed before after past now = sound × DueRead before after past now
-Due open_now Writable sound failed before after past now = DueWrite sound failed before after past now
-Due open_now act sound failed before after past now = ⊥
+-- what must follow an event of a client, while so many clients are open; `unread` says that no piece of a file was read in this turn, `sound` that one was at most and none failed, and `failed` for which request one did
+abbrev pub Due : ℕ → Act → Type 0 → Type 0 → (ℕ → Type 0) → World → World → List Deed → List Deed → Type 0
+Due open_now (Accepted peer local) unread sound failed before after past now = unread × DueArrival open_now peer local past now
+Due open_now Readable unread sound failed before after past now = unread × DueRead before after past now
+Due open_now Writable unread sound failed before after past now = DueWrite sound failed before after past now
+Due open_now act unread sound failed before after past now = ⊥

@@ -1,5 +1,6 @@
 -- What is planned for a request, by what stands at its path and by the calls on files.
 use Rattle.std.specs.Prelude.{ℕ, ◌+◌, ◌==◌, List, [], ◌∷◌, ◌++◌, Bool, true, false, ◌||◌, Some, if◌then◌else◌, bytes_eq, codes}
+use Rattle.lt_world.specs.declared.files.FileCall.{FileCall}
 use Rattle.lt_world.specs.declared.files.FileCall.TheVariants as call
 use Rattle.server_model.specs.Site.{Site}
 use Rattle.server_model.specs.World.{World, has_failed_call}
@@ -78,3 +79,28 @@ outcome settings (Found bytes) false true = file_outcome settings bytes
 -- the plan of request k: a find at each place up to the first file, and an open of that one
 abbrev pub plan : World → ℕ → Head → Outcome
 plan world k head = outcome (settings_of world (Some head)) (sought world k 0 (places_of world.site head)) (has_failed_call world k call.Open 0) (is_served head.method)
+
+-- how many finds a request makes from one place on, by whether the find there failed and what stands there, and how many it makes at the other places: up to a fault or the first file
+abbrev pub finds_by : Bool → Node → ℕ → ℕ
+finds_by true node others = 1
+finds_by false Missing others = others + 1
+finds_by false Directory others = others + 1
+finds_by false (File bytes time) others = 1
+
+-- the finds of request k at these places, the first of which has number n
+abbrev pub finds_at : World → ℕ → ℕ → List (List ℕ) → ℕ
+finds_at world k n [] = 0
+finds_at world k n (place ∷ places) = finds_by (has_failed_call world k call.Find n) (world.tree place) (finds_at world k (n + 1) places)
+
+-- one open where a file was found and answers the method
+abbrev pub opens_by : Sought → Bool → ℕ
+opens_by Fault served = 0
+opens_by Nowhere served = 0
+opens_by (Found bytes) false = 0
+opens_by (Found bytes) true = 1
+
+-- how many calls of each kind the plan of request k makes
+abbrev pub calls_of : World → ℕ → Head → FileCall → ℕ
+calls_of world k head call.Find = finds_at world k 0 (places_of world.site head)
+calls_of world k head call.Open = opens_by (sought world k 0 (places_of world.site head)) (is_served head.method)
+calls_of world k head call.Read = 0

@@ -1,5 +1,5 @@
 -- How what a server keeps stands for a trace and for what the files tell.
-use Rattle.std.specs.Prelude.{◌≡◌, ℕ, ◌+◌, ◌≤◌, List, [], ◌++◌, length, Bool, true, false, Option, Some, None}
+use Rattle.std.specs.Prelude.{◌≡◌, ℕ, ◌+◌, ◌<◌, ◌≤◌, List, [], ◌++◌, length, Bool, true, false, Option, Some, None}
 use Rattle.lt_world.specs.Acts.{input_of, output_of}
 use Rattle.lt_world.specs.declared.files.FileCall.{FileCall}
 use Rattle.lt_world.specs.Disk.{Table, Disk}
@@ -13,7 +13,7 @@ use Rattle.server_model.specs.World.{World, world_of, call_count}
 use Rattle.server_model.specs.Reply.{Whole, continue_of}
 use Rattle.server_model.specs.Stream.{Passed, reply_at, left_after, replies_to}
 use Rattle.server_model.specs.Deeds.{Deed, own, ours}
-use Rattle.server_model.specs.Client.{has_ended, has_failed, is_open, CameFrom, AskedInTurn, IsFinished, IsServedRight}
+use Rattle.server_model.specs.Client.{has_ended, has_failed, is_open, CameFrom, AskedInTurn, AskedWhole, IsFinished, IsServedRight}
 use Rattle.chunkqueue.specs.Items.{Item, bytes_of, Shows}
 use Rattle.server_model.specs.Held.{Stage, Awaiting, Heading, Taking, Asking, Answering, Held, Serving, kept_at}
 use Rattle.server_model.specs.Steps.{has_no_items}
@@ -106,6 +106,8 @@ pub record Matches (opened : Table) (world : World) (held : Held) (acts : List A
   pub at : IsAt opened world held acts held.stage
   pub in_turn : AskedInTurn world acts
   pub unasked : (k : ℕ) (what : FileCall) → first_unasked held.stage ≤ k → call_count world k what ≡ 0
+  -- where calls were made they are exactly those of the plan
+  pub asked : (k : ℕ) (what : FileCall) → 0 < call_count world k what → AskedWhole world acts k
 
 -- no request is to be answered, all that came of a body was taken up, and of a reply that was given something is owed
 abbrev pub IsWaitingAt : Stage → List ℕ → List Item → Type 0

@@ -1,11 +1,11 @@
 -- One turn: an event, and what is done for each client that it concerns.
-use Rattle.std.specs.Prelude.{◌≡◌, ◌≤◌, ℕ, ◌-◌, List, [], ◌∷◌, ◌++◌, false, Option, Some, None}
+use Rattle.std.specs.Prelude.{◌≡◌, ◌≤◌, ℕ, ◌+◌, ◌-◌, List, [], ◌∷◌, ◌++◌, false, Option, Some, None}
 use Rattle.lt_world.specs.declared.files.Call.{Call}
 use Rattle.lt_world.specs.declared.net.Ending.{Ending}
 use Rattle.lt_world.specs.declared.net.Ending.TheVariants as ending
 use Rattle.lt_world.specs.declared.net.Owner.{Owner}
 use Rattle.lt_world.specs.Causes.{Rose}
-use Rattle.lt_world.specs.Disk.{Disk, Table}
+use Rattle.lt_world.specs.Disk.{Disk, Table, Reads}
 use Rattle.lt_world.specs.Trace.{Act, Entry, Accepted, Close, names}
 use Rattle.server_model.specs.Site.{Site}
 use Rattle.server_model.specs.World.{World, world_of}
@@ -21,20 +21,25 @@ use Rattle.server_model.specs.Due.{Due}
 pub record Seen : Type 0 where
   pub disk : Disk
   pub faults : ℕ
-  -- the owner of the last read that failed
-  pub failed_read : Option Owner
+  pub reads : Reads
 
--- a read failed for this request of a client: the count rose, and this was the owner
+-- one read failed for this request of a client: the count rose, and this was the owner
 pub record ReadFailed (client number : ℕ) (before after : Seen) : Type 0 where
   pub rose : Rose before.faults after.faults
   pub owner : Owner
-  pub is : after.failed_read ≡ Some owner
+  pub is : after.reads.failed ≡ Some owner
   pub conn : owner.conn ≡ client
   pub request : owner.request ≡ number
+  pub once : after.reads.made ≤ before.reads.made + 1
 
--- no read failed: the owner of the last one that did is as before
-abbrev pub NoReadFailed : Seen → Seen → Type 0
-NoReadFailed before after = after.failed_read ≡ before.failed_read
+-- no piece of an opened file was read
+abbrev pub ReadsNone : Seen → Seen → Type 0
+ReadsNone before after = after.reads ≡ before.reads
+
+-- at most one piece was read, and no read failed: the owner of the last one that did is as before
+pub record ReadsOne (before after : Seen) : Type 0 where
+  pub failed : after.reads.failed ≡ before.reads.failed
+  pub once : after.reads.made ≤ before.reads.made + 1
 
 -- what is done for one client
 pub record Part : Type 0 where
@@ -48,11 +53,11 @@ all_told (p ∷ parts) trace = told p.client p.deeds (all_told parts trace)
 
 -- what is due for the client of a link
 abbrev pub DueFor : Site → Act → ℕ → Seen → Seen → List Entry → List Entry → Type 0
-DueFor site event client before after old now = Due (open_clients old) event (NoReadFailed before after) (λ k. ReadFailed client k before after) (world_of site before.disk client (own client old)) (world_of site after.disk client (own client now)) (own client old) (own client now)
+DueFor site event client before after old now = Due (open_clients old) event (ReadsNone before after) (ReadsOne before after) (λ k. ReadFailed client k before after) (world_of site before.disk client (own client old)) (world_of site after.disk client (own client now)) (own client old) (own client now)
 
 -- what is due for a client by its deeds, however many clients are open
 abbrev pub DueOn : Act → Seen → Seen → ℕ → World → World → List Deed → List Deed → Type 0
-DueOn event before after client was is past now = (open_now : ℕ) → Due open_now event (NoReadFailed before after) (λ k. ReadFailed client k before after) was is past now
+DueOn event before after client was is past now = (open_now : ℕ) → Due open_now event (ReadsNone before after) (ReadsOne before after) (λ k. ReadFailed client k before after) was is past now
 
 -- an event of a link concerns its client alone
 abbrev pub DueParts : Site → Act → ℕ → List Part → Seen → Seen → List Entry → List Entry → Type 0
