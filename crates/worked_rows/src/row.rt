@@ -37,14 +37,14 @@ pub struct Row<'t> {
 
 impl<'t> Row<'t> {
     /// A row of this name, with a configuration and a script to begin with.
-    pub fn new(alloc: Global, name: &'t [u8], conf: &[u8], script: &[u8]) -> Result<Row<'t>> {
+    pub fn new(alloc: Global, name: &'t [u8], conf: Text, script: Text) -> Result<Row<'t>> {
         Ok(Row {
             alloc,
             name,
             words: WORDS,
-            conf: Text::from_bytes(alloc, conf)?,
-            script: Text::from_bytes(alloc, script)?,
-            bytewise: Text::from_bytes(alloc, script)?,
+            conf,
+            bytewise: Text::from_bytes(alloc, script.bytes())?,
+            script,
             sends: false,
             room: ROOM,
             fails: None,

@@ -60,10 +60,18 @@ impl<'t> Rows<'t> {
 
     fn begin(&mut self, name: &'t [u8]) -> Result<()> {
         self.play()?;
-        let conf = bytes_named(&self.names, b"K0").unwrap_or(b"");
-        let script = bytes_named(&self.names, b"S0").unwrap_or(b"");
+        let conf = self.base(b"K0")?;
+        let script = self.base(b"S0")?;
         self.row = Some(Row::new(self.alloc, name, conf, script)?);
         Ok(())
+    }
+
+    // What a row begins with, under this name; nothing where there is no such text.
+    fn base(&self, name: &[u8]) -> Result<Text> {
+        match bytes_named(&self.names, name) {
+            Some(bytes) => Ok(Text::from_bytes(self.alloc, bytes)?),
+            None => Ok(Text::new(self.alloc)),
+        }
     }
 
     fn play(&mut self) -> Result<()> {
