@@ -1,0 +1,4 @@
+pub mod Calendar
+pub mod Escaping
+pub mod Placing
+pub mod RangeLaws

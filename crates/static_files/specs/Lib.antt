@@ -1,0 +1,6 @@
+pub mod Ranges
+pub mod Calendar
+pub mod Dates
+pub mod Places
+pub mod Locations
+pub mod MediaTypes
