@@ -1,5 +1,5 @@
 -- Files that are given back, one client after the other.
-use Rattle.std.proofs.Common.{◌≡◌, ℕ, List, [], ◌∷◌, ◌++◌, length, Option, Some, None, refl, sym, ◌∙◌, ap, arith, inl, inr}
+use Rattle.std.proofs.Common.{◌≡◌, ℕ, List, [], ◌∷◌, ◌++◌, length, Option, Some, None, append-nil, refl, sym, ◌∙◌, ap, inl, inr}
 use Rattle.std.proofs.lemmas.Bool.{cases_eq}
 use Rattle.buffer_pool.specs.State.{PoolState}
 use Rattle.buffer_pool.specs.Kept.{Kept, HeldWithin}
@@ -8,9 +8,11 @@ use Rattle.lt_world.proofs.Disks.{released_own, released_other}
 use Rattle.server_model.specs.Held.{Held, kept_at}
 use Rattle.server_model.specs.Files.{file_of, Drops}
 use Rattle.server_model.proofs.Tables.{kept_at-first, kept_at-past}
+use Rattle.chunkqueue.specs.Store.{unused}
 use Rattle.connection.specs.Connection.{Connected}
-use Rattle.server_core.specs.Table.{helds, held_count, freed, all_freed}
-use Rattle.server_core.proofs.Listed.{helds_append, count_append}
+use Rattle.server_core.specs.Table.{helds, numbers_of, freed, all_freed}
+use Rattle.server_core.proofs.Buffered.{each_within, each_removed}
+use Rattle.server_core.proofs.Listed.{helds_append}
 
 freed_drops : (file : Option ℕ) (a b : Disk) → Drops file a b → b ≡ freed file a
 freed_drops None a b is = is
@@ -28,11 +30,11 @@ module _ (old rest : List Connected) (x : Connected) (is : old ≡ rest ++ x ∷
       ∙ ap (λ t. all_freed t a) (sym (ap helds is ∙ helds_append rest (x ∷ [])))
       ∙ had
 
-  pub popped_within : (store : PoolState) → HeldWithin store (held_count old) → HeldWithin store (length x.numbers)
-  popped_within store within = omega (arith, within, ap held_count is, count_append rest (x ∷ []))
+  pub popped_within : (store : PoolState) → Kept unused [] store (numbers_of old) → HeldWithin store (length x.numbers)
+  popped_within store had = each_within store store old rest [] x is had
 
-  pub popped_count : (store next : PoolState) → Kept store x.numbers next [] → HeldWithin store (held_count old) → HeldWithin next (held_count rest)
-  popped_count store next kept within = omega (arith, kept.total, kept.rises, within, ap held_count is, count_append rest (x ∷ []))
+  pub popped_each : (store next : PoolState) → Kept store x.numbers next [] → Kept unused [] store (numbers_of old) → Kept unused [] next (numbers_of rest)
+  popped_each store next kept had = each_removed store next old rest [] x is had kept rest (sym (append-nil rest))
 
 -- a file that isn't open stays so
 freed_none : (file : Option ℕ) (disk : Disk) (f : ℕ) → disk.table f ≡ None → (freed file disk).table f ≡ None

@@ -2,6 +2,9 @@ pub mod Planning
 pub mod Advancing
 mod Settling
 pub mod Stepped
+pub mod Buffered
 pub mod Listed
+pub mod Offering
+pub mod Placed
 pub mod Tabled
 pub mod Closing

@@ -10,6 +10,8 @@ use Rattle.server_model.proofs.Changing.{Changes, IsAt, at_is, replaces, removes
 use Rattle.connection.specs.Connection.{Connected}
 use Rattle.server_core.specs.Steps.{IsResting}
 use Rattle.server_core.specs.Table.{helds, held_count, AllAbove, Rising, AllResting, IsKept}
+use Rattle.buffer_pool.proofs.Keeping.{kept_both}
+use Rattle.server_core.proofs.Buffered.{each_changed, each_removed}
 
 pub helds_append : (xs ys : List Connected) → helds (xs ++ ys) ≡ helds xs ++ helds ys
 helds_append xs ys = map-append (λ (c : Connected). c.held) xs ys
@@ -91,7 +93,8 @@ module _ (link : ℕ) (conns : List Connected) (i : ℕ) (c : Connected) (place 
   pub place_below : i < length conns
   place_below = omega (arith, place.0, length-map conns (λ (k : Connected). k.held))
 
-  split : conns ≡ take i conns ++ c ∷ drop (i + 1) conns
+  -- the list around it
+  pub split : conns ≡ take i conns ++ c ∷ drop (i + 1) conns
   split = sym (take-append-drop i conns) ∙ ap (λ l. take i conns ++ l) (drop_more conns i c place_below) ∙ ap (λ h. take i conns ++ h ∷ drop (i + 1) conns) (sym is)
 
   table_split : helds conns ≡ helds xs ++ c.held ∷ helds ys
@@ -148,6 +151,7 @@ module _ (link : ℕ) (conns : List Connected) (i : ℕ) (c : Connected) (place 
       pub place_set_kept : new.held.link ≡ c.held.link → IsResting new.held → IsKept next_store (set conns i new)
       place_set_kept same rests = record {
         counted = omega (arith, k.counted, count_is, kept.total, kept.rises, ap held_count (set_is new), count_append xs (new ∷ ys));
+        each = each_changed store next_store conns xs ys c split k.each new kept (set conns i new) (set_is new);
         rising = subst Rising (sym (table_set new)) (rising_replace (helds xs) c.held new.held (helds ys) same (subst Rising table_split k.rising));
         resting = subst AllResting (sym (table_set new)) (resting_replace (helds xs) c.held new.held (helds ys) rests (subst AllResting table_split k.resting));
       }
@@ -155,6 +159,7 @@ module _ (link : ℕ) (conns : List Connected) (i : ℕ) (c : Connected) (place 
       pub place_removed_kept : (last : PoolState) → Kept next_store new.numbers last [] → (gone : Connected) (next : List Connected) → next ≡ take i (set conns i gone) ++ drop (i + 1) (set conns i gone) → IsKept last next
       place_removed_kept last closed gone next same = record {
         counted = omega (arith, k.counted, count_is, kept.total, kept.rises, closed.total, closed.rises, ap held_count (removed_is gone next same), count_append xs ys);
+        each = each_removed store last conns xs ys c split k.each (kept_both store next_store last c.numbers new.numbers [] kept closed) next (removed_is gone next same);
         rising = subst Rising (sym (table_removed gone next same)) (rising_remove (helds xs) c.held (helds ys) (subst Rising table_split k.rising));
         resting = subst AllResting (sym (table_removed gone next same)) (resting_remove (helds xs) c.held (helds ys) (subst AllResting table_split k.resting));
       }

@@ -23,6 +23,7 @@ use Rattle.server_core.specs.declared.step.Ready.{Ready}
 use Rattle.server_core.specs.declared.step.Ready.TheVariants as ready
 use Rattle.server_core.specs.Steps.{IsResting, event_of}
 use Rattle.server_core.specs.Table.{helds, serving, held_count, Rising, AllResting, IsKept}
+use Rattle.server_core.proofs.Buffered.{each_pushed}
 use Rattle.server_core.proofs.Listed.{helds_append, count_append, rising_push, resting_push}
 
 pub place_as : (link : ℕ) (conns other : List Connected) (i : ℕ) → other ≡ conns → IsPlace link (helds other) (Some i) → IsPlace link (helds conns) (Some i)
@@ -71,6 +72,7 @@ push_kept link peer local conns next new is none pushed table store kept =
     let pushed_table : helds next ≡ helds conns ++ new.held ∷ [] = ap helds pushed ∙ helds_append conns (new ∷ []) in
     record {
       counted = omega (arith, kept.counted, ap held_count pushed, count_append conns (new ∷ []), ap length none);
+      each = each_pushed store conns next new none pushed kept.each;
       rising = subst Rising (sym pushed_table) (rising_push link (helds conns) new.held table.below (omega (arith, ap (λ (h : Held). h.link) is)) kept.rising);
       resting = subst AllResting (sym pushed_table) (resting_push (helds conns) new.held (subst IsResting (sym is) (arrived_rests link peer local)) kept.resting);
     }

@@ -1,5 +1,7 @@
 pub mod Client
 pub mod Form
+pub mod Offers
+pub mod Places
 pub mod Planned
 pub mod Served
 pub mod Steps

@@ -1,8 +1,9 @@
 -- The table of clients that the code keeps.
-use Rattle.std.specs.Prelude.{ℕ, ◌+◌, ◌<◌, List, [], ◌∷◌, length, map, Option, Some, None}
+use Rattle.std.specs.Prelude.{ℕ, ◌+◌, ◌<◌, List, [], ◌∷◌, ◌++◌, length, map, Option, Some, None}
 use Rattle.lt_world.specs.Disk.{Disk, released}
 use Rattle.buffer_pool.specs.State.{PoolState}
-use Rattle.buffer_pool.specs.Kept.{HeldWithin}
+use Rattle.buffer_pool.specs.Kept.{Kept, HeldWithin}
+use Rattle.chunkqueue.specs.Store.{unused}
 use Rattle.server_model.specs.Site.{Site}
 use Rattle.server_model.specs.Held.{Held, Serving}
 use Rattle.connection.specs.Connection.{Connected}
@@ -12,6 +13,10 @@ use Rattle.server_core.specs.Steps.{IsResting}
 abbrev pub helds : List Connected → List Held
 helds conns = map (λ c. c.held) conns
 
+-- how many bytes the next write to each offers
+abbrev pub offers_of : List Connected → List ℕ
+offers_of conns = map (λ c. c.offers) conns
+
 abbrev pub serving : Site → List Connected → Serving
 serving site conns = record { site = site; table = helds conns }
 
@@ -19,6 +24,11 @@ serving site conns = record { site = site; table = helds conns }
 abbrev pub held_count : List Connected → ℕ
 held_count [] = 0
 held_count (c ∷ conns) = length c.numbers + held_count conns
+
+-- the numbers of these buffers, a client's after another's
+abbrev pub numbers_of : List Connected → List ℕ
+numbers_of [] = []
+numbers_of (c ∷ conns) = c.numbers ++ numbers_of conns
 
 -- each link is above n
 abbrev pub AllAbove : ℕ → List Held → Type 0
@@ -38,6 +48,8 @@ AllResting (held ∷ table) = IsResting held × AllResting table
 -- how the clients stand between two turns
 pub record IsKept (store : PoolState) (conns : List Connected) : Type 0 where
   pub counted : HeldWithin store (held_count conns)
+  -- every buffer that was made since the store was new is spare, or in a queue of one client
+  pub each : Kept unused [] store (numbers_of conns)
   pub rising : Rising (helds conns)
   pub resting : AllResting (helds conns)
 

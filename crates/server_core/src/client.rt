@@ -1,5 +1,5 @@
 //! A client of the table.
-ghost use Rattle.std.specs.Prelude.{◌≡◌, IfOk, IfErr};
+ghost use Rattle.std.specs.Prelude.{◌≡◌, ◌<◌, ◌^◌, length, IfOk, IfErr};
 ghost use Rattle.std.specs.Borrow.{sem};
 
 use connection::Conn;
@@ -40,11 +40,27 @@ impl Client {
         self.conn.link()
     }
 
+    /// How many buffers it holds.
+    pub(crate) fn nodes(&self) -> u64
+        requires countable { length self.now.numbers < 2 ^ 64 }
+        ensures nodes { result ≡ length self.now.numbers }
+    {
+        self.conn.nodes()
+    }
+
     pub(crate) fn conn_mut(&mut self) -> &mut Conn
         ensures* writes_back { sem 𝓛 (LendsConn self.entry result) }
         ensures value { result.now ≡ self.old }
     {
         &mut self.conn
+    }
+
+    /// Puts a connection in the place of the one that is there, and answers that one.
+    pub(crate) fn put(&mut self, conn: Conn) -> Conn
+        ensures new { self.new ≡ conn }
+        ensures old { result ≡ self.old }
+    {
+        Box::replace(&mut self.conn, conn)
     }
 
     pub(crate) fn into_conn(self) -> Conn

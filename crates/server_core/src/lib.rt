@@ -7,6 +7,7 @@
 
 mod client;
 mod form;
+mod places;
 mod plan;
 mod replies;
 mod server;
@@ -17,5 +18,5 @@ mod step;
 mod table;
 mod turn;
 
-pub use server::Server;
+pub use server::{Held, SPARE_BUFFERS, Server};
 pub use turn::Turn;

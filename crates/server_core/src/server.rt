@@ -1,17 +1,21 @@
 //! The server, and its turns.
-ghost use Rattle.std.specs.Prelude.{◌≡◌, ◌+◌, ◌≤◌, ℕ, List, [], IfOk, None};
-ghost use Rattle.buffer_pool.specs.Kept.{HeldWithin};
+ghost use Rattle.std.specs.Prelude.{◌≡◌, ℕ, ◌+◌, ◌≤◌, ◌<◌, ◌^◌, List, [], length, vec_capacity, IfOk, None};
+ghost use Rattle.buffer_pool.specs.Kept.{Kept, HeldWithin};
+ghost use Rattle.chunkqueue.specs.Store.{unused};
 ghost use Rattle.lt_world.specs.Disk.{Disk};
 ghost use Rattle.lt_world.specs.Trace.{Entry};
 ghost use Rattle.server_model.specs.Site.{site_at};
 ghost use Rattle.server_model.specs.Files.{IsTable, Backs};
 ghost use Rattle.server_model.specs.Serves.{Serves};
+ghost use Rattle.server_core.specs.Places.{ArePlaces};
 ghost use Rattle.server_core.specs.Steps.{seen_as};
-ghost use Rattle.server_core.specs.Table.{helds, held_count, all_freed};
-ghost use Rattle.server_core.specs.Within.{serving_at};
+ghost use Rattle.server_core.specs.Table.{helds, held_count, numbers_of, all_freed};
+ghost use Rattle.server_core.specs.Offers.{OffersIn, GainsWrites};
+ghost use Rattle.server_core.specs.Within.{serving_at, joined, IsEachBufferOnce};
 ghost use Rattle.server_core.specs.Turns.{Turned, OnRest, KindFits, Uses};
 
 use crate::client::Client;
+use crate::places::{CONNECTION_LIMIT, clear, free_places};
 use crate::replies::Replies;
 use crate::site::Site;
 use crate::step::{Ready, release};
@@ -23,10 +27,23 @@ use lt_world::{Event, Files, Net};
 use std::alloc::Global;
 use std::marker::Model;
 
+/// Buffers that are made before the first client arrives.
+pub const SPARE_BUFFERS: u64 = 512;
+
+/// How many buffers there are, and where: those that are spare and those in the queues of clients are all that were made.
+#[derive(Clone, Copy, Debug, PartialEq, Eq)]
+pub struct Held {
+    pub made: u64,
+    pub free: u64,
+    pub queued: u64,
+}
+
 /// A server: what it serves, and the clients that are open. It must be closed: it can't be dropped.
 pub struct Server {
     site: Site,
     clients: Vec<Client>,
+    // Places for the clients that may still come.
+    places: Vec<Client>,
     store: Store,
     // What a read brings, before it is kept.
     scratch: Box<[u8; BUFFER_SIZE]>,
@@ -49,6 +66,7 @@ impl Server {
     pub fn new(alloc: Global, root: Text) -> Result<Server, NoMemory>
         ensures site { IfOk result (λ server. server.site ≡ site_at root) }
         ensures empty { IfOk result (λ server. server.table ≡ []) }
+        ensures spare { IfOk result (λ server. SPARE_BUFFERS ≤ length server.pool.free) }
         ensures table { IfOk result (λ server. (links : ℕ) → IsTable links server.table) }
         ensures backs { IfOk result (λ server. (disk : Disk) → Backs disk.table server.table) }
         ensures serves { IfOk result (λ server. (disk : Disk) → disk.calls ≡ [] → ((file : ℕ) → disk.table file ≡ None) → Serves disk (serving_at server) []) }
@@ -57,16 +75,25 @@ impl Server {
             Ok(scratch) => scratch,
             Err(_) => return Err(NoMemory),
         };
-        Ok(Server {
-            site: Site {
-                alloc,
-                root,
-                replies: Replies::new(alloc)?,
-            },
-            clients: Vec::new(alloc),
-            store: Store::new(alloc),
-            scratch,
-        })
+        let replies = Replies::new(alloc)?;
+        let mut store = spare_buffers(alloc)?;
+        match room(alloc, &mut store) {
+            Ok((clients, places)) => Ok(Server {
+                site: Site {
+                    alloc,
+                    root,
+                    replies,
+                },
+                clients,
+                places,
+                store,
+                scratch,
+            }),
+            Err(error) => {
+                store.close();
+                Err(error)
+            }
+        }
     }
 
     /// Takes the next event of the net, and does all that is due for it. Where the net answers no event,
@@ -85,7 +112,13 @@ impl Server {
         ensures site { self.new.site ≡ self.old.site }
 
         // Bodies move: few bytes are put into buffers or moved in them, whatever their size.
-        ensures filled { self.new.filled ≤ self.old.filled + 262144 }
+        ensures filled { self.new.pool.filled ≤ self.old.pool.filled + 262144 }
+
+        // Each buffer is in one place: no client that was closed holds one.
+        ensures once { IsEachBufferOnce self.new }
+
+        // A write offers all unread bytes of the first chunk, or all that is staged of its range.
+        ensures offers { N.tells → GainsWrites (OffersIn self.old.table self.old.offers) (N.trace net.old) (N.trace net.new) }
 
         // The answer is that of the net, and without an event nothing changes.
         ensures last { KindFits result (N.last net.new) }
@@ -99,10 +132,13 @@ impl Server {
         ensures faults { F.faults files.old ≤ F.faults files.new }
         ensures files_later { F.later files.old files.new }
     {
+        // A look at a field brings what holds between two turns, also where nothing is done.
+        let _ = &self.store;
         match net.next() {
             Event::Arrived { link, peer, local } => {
                 accept_on(
                     &mut self.clients,
+                    &mut self.places,
                     &self.site,
                     &mut self.store,
                     net,
@@ -114,6 +150,7 @@ impl Server {
             Event::Readable(link) => {
                 step_on(
                     &mut self.clients,
+                    &mut self.places,
                     &self.site,
                     &mut self.store,
                     &mut self.scratch,
@@ -127,6 +164,7 @@ impl Server {
             Event::Writable(link) => {
                 step_on(
                     &mut self.clients,
+                    &mut self.places,
                     &self.site,
                     &mut self.store,
                     &mut self.scratch,
@@ -143,6 +181,21 @@ impl Server {
         }
     }
 
+    /// Where the buffers are. It takes no memory.
+    pub fn held(&self) -> Held
+        ensures made { result.made ≡ self.now.pool.made }
+        ensures free { result.free ≡ length self.now.pool.free }
+        ensures queued { result.queued ≡ length (joined self.now.queued) }
+        ensures all { result.free + result.queued ≡ result.made }
+        ensures once { IsEachBufferOnce self.now }
+    {
+        Held {
+            made: self.store.made(),
+            free: self.store.spare(),
+            queued: queued(&self.clients),
+        }
+    }
+
     /// Ends the server: it gives every file back that it keeps. No client is told.
     pub fn close<F: Files>(self, files: &mut F)
         ensures disk { F.tells → F.disk files.new ≡ all_freed self.table (F.disk files.old) }
@@ -156,18 +209,71 @@ impl Server {
         let Server {
             site: _,
             mut clients,
+            mut places,
             mut store,
             scratch: _,
         } = self;
         give_back(&mut clients, &mut store, files);
         clients.destroy_empty();
+        clear(&mut places, &mut store);
+        places.destroy_empty();
         store.close();
     }
 }
 
+// An owner of buffers that has spare ones.
+fn spare_buffers(alloc: Global) -> Result<Store, NoMemory>
+    ensures each { IfOk result (λ store. Kept unused [] store []) }
+    ensures spare { IfOk result (λ store. SPARE_BUFFERS ≤ length store.free) }
+{
+    let mut store = Store::new(alloc);
+    match store.reserve(SPARE_BUFFERS) {
+        Ok(()) => Ok(store),
+        Err(error) => {
+            store.close();
+            Err(error)
+        }
+    }
+}
+
+// A table with room for all clients that may be open, and a place for each.
+fn room(alloc: Global, store: &mut Store) -> Result<(Vec<Client>, Vec<Client>), NoMemory>
+    requires counted { HeldWithin store.old 0 }
+    ensures empty { IfOk result (λ room. room.0.items ≡ []) }
+    ensures places { IfOk result (λ room. ArePlaces room.0.items room.1.items (vec_capacity room.0) (vec_capacity room.1)) }
+    ensures spare { length store.old.free ≤ length store.new.free }
+    ensures kept { Kept store.old [] store.new [] }
+{
+    let Ok(clients) = Vec::with_capacity(alloc, CONNECTION_LIMIT) else {
+        return Err(NoMemory);
+    };
+    match free_places(alloc, store) {
+        Ok(places) => Ok((clients, places)),
+        Err(error) => {
+            clients.destroy_empty();
+            Err(error)
+        }
+    }
+}
+
+// How many buffers the queues of clients hold, found by a walk.
+#[tactic(auto, using(crate::proofs::Buffered::count_next))]
+fn queued(clients: &[Client]) -> u64
+    requires countable { held_count clients.now < 2 ^ 64 }
+    ensures { result ≡ held_count clients.now }
+{
+    let mut count = 0;
+    for client in clients {
+        count += client.nodes();
+    }
+    count
+}
+
 // Gives back what the clients keep, and leaves none.
 fn give_back<F: Files>(clients: &mut Vec<Client>, store: &mut Store, files: &mut F)
-    requires { HeldWithin store.old (held_count clients.old.items) }
+    requires { Kept unused [] store.old (numbers_of clients.old.items) }
+    // Every buffer is spare then.
+    ensures spare { Kept unused [] store.new [] }
     ensures empty { clients.new.items ≡ [] }
     ensures disk { F.tells → F.disk files.new ≡ all_freed (helds clients.old.items) (F.disk files.old) }
     ensures failed_read { F.tells → F.failed_read files.new ≡ F.failed_read files.old }

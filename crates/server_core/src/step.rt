@@ -7,6 +7,7 @@ ghost use Rattle.server_model.specs.Serves.{Stands};
 ghost use Rattle.server_model.specs.Due.{DueRead, DueWrite};
 ghost use Rattle.server_model.specs.Turns.{Seen, NoReadFailed, DueOn, GoesBy};
 ghost use Rattle.server_model.specs.Steps.{room_of, wants_read, wrote};
+ghost use Rattle.server_core.specs.Offers.{OffersOn, GainsWrites};
 ghost use Rattle.server_core.specs.Served.{served};
 ghost use Rattle.server_core.specs.Steps.{IsResting, WaitsOn, FailsFor, done_file, event_of, seen_as};
 
@@ -91,6 +92,7 @@ pub(crate) fn step_for<N: Net, F: Files>(
     ensures waits { WaitsOn result conn.new.held }
     ensures filled { store.new.filled ≤ store.old.filled + TURN_FILL }
     ensures kept { Kept store.old conn.old.numbers store.new conn.new.numbers }
+    ensures offers { N.tells → GainsWrites (OffersOn conn.old.held.link conn.old.offers) (N.trace net.old) (N.trace net.new) }
     ensures calls { 0 < N.calls net.new }
     ensures links { N.links net.new ≡ N.links net.old }
     ensures last { N.last net.new ≡ N.last net.old }
@@ -124,6 +126,7 @@ fn read_for<N: Net, F: Files>(
     ensures waits { WaitsOn result conn.new.held }
     ensures filled { store.new.filled ≤ store.old.filled + TURN_FILL }
     ensures kept { Kept store.old conn.old.numbers store.new conn.new.numbers }
+    ensures offers { N.tells → GainsWrites (OffersOn conn.old.held.link conn.old.offers) (N.trace net.old) (N.trace net.new) }
     ensures calls { 0 < N.calls net.new }
     ensures links { N.links net.new ≡ N.links net.old }
     ensures last { N.last net.new ≡ N.last net.old }
@@ -170,6 +173,7 @@ fn receive<N: Net, F: Files>(
     ensures waits { WaitsOn result conn.new.held }
     ensures filled { store.new.filled ≤ store.old.filled + TURN_FILL }
     ensures kept { Kept store.old conn.old.numbers store.new conn.new.numbers }
+    ensures offers { N.tells → GainsWrites (OffersOn conn.old.held.link conn.old.offers) (N.trace net.old) (N.trace net.new) }
     ensures calls { 0 < N.calls net.new }
     ensures links { N.links net.new ≡ N.links net.old }
     ensures last { N.last net.new ≡ N.last net.old }
@@ -215,6 +219,7 @@ fn write_for<N: Net, F: Files>(
     ensures waits { WaitsOn result conn.new.held }
     ensures filled { store.new.filled ≤ store.old.filled + TURN_FILL }
     ensures kept { Kept store.old conn.old.numbers store.new conn.new.numbers }
+    ensures offers { N.tells → GainsWrites (OffersOn conn.old.held.link conn.old.offers) (N.trace net.old) (N.trace net.new) }
     ensures calls { 0 < N.calls net.new }
     ensures links { N.links net.new ≡ N.links net.old }
     ensures last { N.last net.new ≡ N.last net.old }

@@ -1,22 +1,22 @@
 //! The table of clients, in the order of their links, and what each event of a link does in it.
-ghost use Rattle.std.specs.Prelude.{◌≡◌, ◌+◌, ◌≤◌, ◌<◌};
+ghost use Rattle.std.specs.Prelude.{◌≡◌, ◌+◌, ◌≤◌, ◌<◌, vec_capacity};
 ghost use Rattle.lt_world.specs.Trace.{Accepted};
 ghost use Rattle.server_model.specs.Held.{IsPlace};
 ghost use Rattle.server_model.specs.Files.{IsTable, Backs};
 ghost use Rattle.server_model.specs.Turns.{TurnsOn};
+ghost use Rattle.server_core.specs.Offers.{OffersIn, GainsWrites};
+ghost use Rattle.server_core.specs.Places.{ArePlaces};
 ghost use Rattle.server_core.specs.Served.{served};
 ghost use Rattle.server_core.specs.Steps.{event_of, seen_as};
-ghost use Rattle.server_core.specs.Table.{helds, serving, Rising, IsKept};
+ghost use Rattle.server_core.specs.Table.{helds, offers_of, serving, Rising, IsKept};
 
 use crate::client::Client;
+use crate::places::{CONNECTION_LIMIT, put_in, take_out};
 use crate::site::Site;
 use crate::step::{Ready, TURN_FILL, finish, step_for};
 use chunkqueue::{BUFFER_SIZE, Store};
 use connection::Conn;
 use lt_world::{Address, Ending, Files, Link, Net};
-
-/// Clients that are open at once, at most.
-const CONNECTION_LIMIT: usize = 256;
 
 /// A client that arrives: its link, its address and the one that it came to.
 #[derive(Clone, Copy)]
@@ -48,9 +48,10 @@ fn place(clients: &[Client], link: Link) -> Option<usize>
     None
 }
 
-/// A client arrives. It is closed at once where the limit is reached, or where there is no memory to keep it.
+/// A client arrives. It is closed at once where the limit is reached, and else it is kept without a request for memory.
 pub(crate) fn accept_on<N: Net, F: Files>(
     clients: &mut Vec<Client>,
+    places: &mut Vec<Client>,
     site: &Site,
     store: &mut Store,
     net: &mut N,
@@ -60,6 +61,7 @@ pub(crate) fn accept_on<N: Net, F: Files>(
     requires calls { 0 < N.calls net.old }
     requires known { arrival.link.0 < N.links net.old }
     requires kept { IsKept store.old clients.old.items }
+    requires places { ArePlaces clients.old.items places.old.items (vec_capacity clients.old) (vec_capacity places.old) }
     requires table { IsTable arrival.link.0 (helds clients.old.items) }
     requires backs { F.tells → Backs (F.disk files.now).table (helds clients.old.items) }
     ensures turn { TurnsOn (Accepted arrival.peer arrival.local) arrival.link.0 (serving (served site.now) clients.old.items) (serving (served site.now) clients.new.items) N.tells F.tells
@@ -67,8 +69,10 @@ pub(crate) fn accept_on<N: Net, F: Files>(
         (N.trace net.old) (N.trace net.new) }
     ensures filled { store.new.filled ≡ store.old.filled }
     ensures kept { IsKept store.new clients.new.items }
+    ensures places { ArePlaces clients.new.items places.new.items (vec_capacity clients.new) (vec_capacity places.new) }
     ensures table { IsTable (N.links net.new) (helds clients.new.items) }
     ensures backs { F.tells → Backs (F.disk files.now).table (helds clients.new.items) }
+    ensures offers { N.tells → GainsWrites (OffersIn (helds clients.old.items) (offers_of clients.old.items)) (N.trace net.old) (N.trace net.new) }
     ensures last { N.last net.new ≡ N.last net.old }
     ensures net_later { N.later net.old net.new }
 {
@@ -77,23 +81,19 @@ pub(crate) fn accept_on<N: Net, F: Files>(
         net.close(arrival.link, Ending::Full);
         return;
     }
-    let Ok(()) = clients.reserve(1) else {
-        net.close(arrival.link, Ending::NoMemory);
-        return;
-    };
     let Arrival { link, peer, local } = arrival;
-    match Client::new(site.alloc, Conn::new(site.alloc, link, peer, local)) {
-        Ok(client) => clients.push_reserved(client),
-        Err(conn) => {
-            let _no_file = conn.close(store);
-            net.close(link, Ending::NoMemory);
-        }
-    }
+    put_in(
+        clients,
+        places,
+        store,
+        Conn::new(site.alloc, link, peer, local),
+    );
 }
 
 /// A client may be read from or written to.
 pub(crate) fn step_on<N: Net, F: Files>(
     clients: &mut Vec<Client>,
+    places: &mut Vec<Client>,
     site: &Site,
     store: &mut Store,
     scratch: &mut [u8; BUFFER_SIZE],
@@ -106,14 +106,17 @@ pub(crate) fn step_on<N: Net, F: Files>(
     requires room { BUFFER_SIZE ≤ N.room net.old }
     requires known { link.0 < N.links net.old }
     requires kept { IsKept store.old clients.old.items }
+    requires places { ArePlaces clients.old.items places.old.items (vec_capacity clients.old) (vec_capacity places.old) }
     requires backs { F.tells → Backs (F.disk files.old).table (helds clients.old.items) }
     ensures turn { TurnsOn (event_of ready) link.0 (serving (served site.now) clients.old.items) (serving (served site.now) clients.new.items) N.tells F.tells
         (seen_as (F.disk files.old) (F.faults files.old) (F.failed_read files.old)) (seen_as (F.disk files.new) (F.faults files.new) (F.failed_read files.new))
         (N.trace net.old) (N.trace net.new) }
     ensures filled { store.new.filled ≤ store.old.filled + TURN_FILL }
     ensures kept { IsKept store.new clients.new.items }
+    ensures places { ArePlaces clients.new.items places.new.items (vec_capacity clients.new) (vec_capacity places.new) }
     ensures table { IsTable (N.links net.old) (helds clients.old.items) → IsTable (N.links net.new) (helds clients.new.items) }
     ensures backs { F.tells → Backs (F.disk files.new).table (helds clients.new.items) }
+    ensures offers { N.tells → GainsWrites (OffersIn (helds clients.old.items) (offers_of clients.old.items)) (N.trace net.old) (N.trace net.new) }
     ensures last { N.last net.new ≡ N.last net.old }
     ensures net_later { N.later net.old net.new }
     ensures later { F.later files.old files.new }
@@ -125,5 +128,11 @@ pub(crate) fn step_on<N: Net, F: Files>(
     let Some(ending) = step_for(client.conn_mut(), site, store, scratch, net, files, ready) else {
         return;
     };
-    finish(clients.remove(i).into_conn(), store, net, files, ending);
+    finish(
+        take_out(clients, places, site.alloc, i),
+        store,
+        net,
+        files,
+        ending,
+    );
 }

@@ -138,11 +138,6 @@ module _ (link : ℕ) (peer local : Address) (site : Site) (table next : List He
           },
         )
 
-  -- for want of memory
-  pub turn_refused : length table < connection_limit → next ≡ table → (net → now ≡ told link (Ours (Close ending.NoMemory) ∷ []) old) → (files → Backs seen.disk.table table)
-      → TurnsOn (Accepted peer local) link (record { site = site; table = table }) (record { site = site; table = next }) net files seen seen old now
-  turn_refused room same gains = turn_closed ending.NoMemory (λ e. cc (e)) (λ past. DueArrival.refused room) same gains
-
   -- as one too many
   pub turn_full : connection_limit ≤ length table → next ≡ table → (net → now ≡ told link (Ours (Close ending.Full) ∷ []) old) → (files → Backs seen.disk.table table)
       → TurnsOn (Accepted peer local) link (record { site = site; table = table }) (record { site = site; table = next }) net files seen seen old now

@@ -14,7 +14,7 @@ use Rattle.server_model.specs.Deeds.{Deed, Ours, own, ours, told}
 use Rattle.server_model.specs.Open.{open_clients}
 use Rattle.server_model.specs.Client.{owed}
 use Rattle.server_model.specs.Causes.{is_behind_want, IsCause}
-use Rattle.server_model.specs.Due.{Settles, rests, finishes, fails, yields, may_want_after_read, may_want_after_write, DueArrival, comes, refused, full, DueRead, DueWrite, Due}
+use Rattle.server_model.specs.Due.{Settles, rests, finishes, fails, yields, may_want_after_read, may_want_after_write, DueArrival, comes, full, DueRead, DueWrite, Due}
 use Rattle.server_model.specs.Turns.{Seen, ReadsNone, ReadsOne, ReadFailed, Part, all_told, DueParts}
 use Rattle.server_model.specs.Runs.{Told, IsRun, none, more}
 use Rattle.server_model.proofs.Owned.{own_entry_other, own-told_other}
@@ -78,7 +78,6 @@ wants_write due (Close e) acts may = absurd (cc (may))
 
 arrived : (open_now : ℕ) (peer local : Address) (past now : List Deed) (faulted : Type 0) (e : Ending) → DueArrival open_now peer local past now → EndsSo e now → HasCause e now faulted
 arrived open_now peer local past now faulted e (comes room) is = absurd (cc (is))
-arrived open_now peer local past now faulted e (refused room) is = closed ending.NoMemory e (Ours (Accepted peer local) ∷ past) faulted is refl
 arrived open_now peer local past now faulted e (full limit) is = closed ending.Full e (Ours (Accepted peer local) ∷ past) faulted is refl
 
 read_due : (before after : World) (past now : List Deed) (faulted : Type 0) (e : Ending) → DueRead before after past now → EndsSo e now → (now ≡ past) ⊎ HasCause e now faulted

@@ -8,7 +8,7 @@ use Rattle.server_model.specs.Site.{Site}
 use Rattle.server_model.specs.World.{World}
 use Rattle.server_model.specs.Deeds.{Deed, Ours, own, told, AreDeeds}
 use Rattle.server_model.specs.Open.{counted, open_clients}
-use Rattle.server_model.specs.Due.{Settles, rests, finishes, fails, yields, IsReadAct, IsWriteAct, connection_limit, DueArrival, comes, refused, full, DueRead, DueWrite, Due}
+use Rattle.server_model.specs.Due.{Settles, rests, finishes, fails, yields, IsReadAct, IsWriteAct, connection_limit, DueArrival, comes, full, DueRead, DueWrite, Due}
 use Rattle.server_model.specs.Turns.{Seen, Part, all_told, DueParts}
 use Rattle.server_model.specs.Runs.{Told, IsRun, none, more}
 use Rattle.server_model.proofs.Owned.{own_entry, own-told}
@@ -78,7 +78,6 @@ write_none sound failed before after past now (DueWrite.faults w f) = (Ours (Clo
 arrival : (open_now : ℕ) (peer local : Address) (past now : List Deed) → DueArrival open_now peer local past now
     → (front : List Deed) × (now ≡ front ++ Ours (Accepted peer local) ∷ past) × (open_now ≤ connection_limit → count_after front (open_now + 1) ≤ connection_limit)
 arrival open_now peer local past now (comes room) = ([], refl, λ le. omega (arith, room))
-arrival open_now peer local past now (refused room) = (Ours (Close ending.NoMemory) ∷ [], refl, λ le. omega (arith, le))
 arrival open_now peer local past now (full limit) = (Ours (Close ending.Full) ∷ [], refl, λ le. omega (arith, le))
 
 -- the deeds of a turn are those that came on top

@@ -10,9 +10,8 @@ abbrev pub is_turned_away : List Act → Bool
 is_turned_away (Close e ∷ Accepted peer local ∷ acts) = true
 is_turned_away acts = false
 
--- it was closed behind what may want memory: its arrival, bytes or their end that came, or bytes that it took
+-- it was closed behind what may want memory: bytes or their end that came, or bytes that it took
 abbrev pub is_behind_want : List Act → Bool
-is_behind_want (Close e ∷ Accepted peer local ∷ acts) = true
 is_behind_want (Close e ∷ Read asked bytes ∷ acts) = true
 is_behind_want (Close e ∷ ReadEnd ∷ acts) = true
 is_behind_want (Close e ∷ Wrote offered bytes ∷ acts) = true

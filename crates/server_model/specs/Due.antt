@@ -58,10 +58,9 @@ may_want_after_write due act = false
 abbrev pub connection_limit : ℕ
 connection_limit = 256
 
--- a client arrives while so many are open: it is closed as one too many exactly where the limit is reached, and may be refused for want of memory
+-- a client arrives while so many are open: it is closed as one too many exactly where the limit is reached, and never for want of memory
 pub data DueArrival (open_now : ℕ) (peer local : Address) (past : List Deed) : List Deed → Type 0 where
   comes : open_now < connection_limit → DueArrival open_now peer local past (Ours (Accepted peer local) ∷ past)
-  refused : open_now < connection_limit → DueArrival open_now peer local past (Ours (Close ending.NoMemory) ∷ Ours (Accepted peer local) ∷ past)
   full : connection_limit ≤ open_now → DueArrival open_now peer local past (Ours (Close ending.Full) ∷ Ours (Accepted peer local) ∷ past)
 
 -- exactly one read where the client wants one, else nothing; the world before and after the turn

@@ -1,6 +1,9 @@
 use Rattle.server_core.specs.Served.{served}
 use Rattle.server_model.proofs.ReadSteps.{read_idle}
 use Rattle.server_core.proofs.Stepped.{room_wants, no_room}
+use Rattle.std.proofs.Common.{refl}
+use Rattle.server_core.specs.Offers.{OffersOn}
+use Rattle.server_core.proofs.Offering.{gains_none}
 use Rattle.server_core.proofs.step.read_for.Goals as goal
 
 pub returns-then-room-eq0-clause-goes : goal.returns-then-room-eq0-clause-goes
@@ -9,3 +12,6 @@ returns-then-room-eq0-clause-goes g c = read_idle (served c.args.site.now) c.arg
 
 pub receive-requires-clause-wants : goal.receive-requires-clause-wants
 receive-requires-clause-wants g c = room_wants c.args.conn.now.held c.room-room.result c.room-room.ensures.room c.if-room-eq0.false
+
+pub returns-then-room-eq0-clause-offers : goal.returns-then-room-eq0-clause-offers
+returns-then-room-eq0-clause-offers g c t = gains_none (OffersOn c.args.conn.now.held.link c.args.conn.now.offers) (g.N.Net.trace c.args.net.now) (g.N.Net.trace c.args.net.now) refl

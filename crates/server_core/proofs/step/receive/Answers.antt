@@ -7,6 +7,8 @@ use Rattle.server_model.specs.Steps.{received, received_end}
 use Rattle.server_model.proofs.ReadSteps.{read_yields, read_then, read_end_then, read_not_yet, read_failed}
 use Rattle.server_core.specs.Steps.{is_idle, IsFree}
 use Rattle.server_core.proofs.Stepped.{tells_at, rests_idle, settles_read}
+use Rattle.server_core.specs.Offers.{OffersOn}
+use Rattle.server_core.proofs.Offering.{gains_one}
 use Rattle.server_core.proofs.step.receive.Goals as goal
 
 pub returns-in_default-clause-goes : goal.returns-in_default-clause-goes
@@ -45,3 +47,18 @@ pub returns-in-Failed-clause-goes : goal.returns-in-Failed-clause-goes
 returns-in-Failed-clause-goes g c =
     read_failed (served c.args.site.now) c.args.conn.now.held g.N.Net.tells g.F.Files.tells (g.F.Files.disk c.args.files.now) (g.N.Net.trace c.args.net.now) (g.N.Net.trace c.read.new.self) c.requires.wants
     (λ t. tells_at c.link.result.0 c.args.conn.now.held.link (Failed Reading) (g.N.Net.trace c.args.net.now) (g.N.Net.trace c.read.new.self) c.link.ensures.link (c.in-Failed.ensures.trace t))
+
+pub returns-in_default-clause-offers : goal.returns-in_default-clause-offers
+returns-in_default-clause-offers g c t = gains_one (OffersOn c.args.conn.now.held.link c.args.conn.now.offers) c.link.result.0 (Read (length c.read.new.buf) (take c.in-Bytes.n c.read.new.buf)) (g.N.Net.trace c.args.net.now) (g.N.Net.trace c.read.new.self) (c.in-Bytes.ensures.trace t) tt
+
+pub returns-in-Ok-clause-offers : goal.returns-in-Ok-clause-offers
+returns-in-Ok-clause-offers g c t = gains_one (OffersOn c.args.conn.now.held.link c.args.conn.now.offers) c.link.result.0 (Read (length c.read.new.buf) (take c.in-Bytes.n c.read.new.buf)) (g.N.Net.trace c.args.net.now) (g.N.Net.trace c.read.new.self) (c.in-Bytes.ensures.trace t) tt
+
+pub returns-in-End-clause-offers : goal.returns-in-End-clause-offers
+returns-in-End-clause-offers g c t = gains_one (OffersOn c.args.conn.now.held.link c.args.conn.now.offers) c.link.result.0 (ReadEnd) (g.N.Net.trace c.args.net.now) (g.N.Net.trace c.read.new.self) (c.in-End.ensures.trace t) tt
+
+pub returns-in-NotYet-clause-offers : goal.returns-in-NotYet-clause-offers
+returns-in-NotYet-clause-offers g c t = gains_one (OffersOn c.args.conn.now.held.link c.args.conn.now.offers) c.link.result.0 (NotYet Reading) (g.N.Net.trace c.args.net.now) (g.N.Net.trace c.read.new.self) (c.in-NotYet.ensures.trace t) tt
+
+pub returns-in-Failed-clause-offers : goal.returns-in-Failed-clause-offers
+returns-in-Failed-clause-offers g c t = gains_one (OffersOn c.args.conn.now.held.link c.args.conn.now.offers) c.link.result.0 (Failed Reading) (g.N.Net.trace c.args.net.now) (g.N.Net.trace c.read.new.self) (c.in-Failed.ensures.trace t) tt

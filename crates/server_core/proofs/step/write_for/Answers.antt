@@ -1,4 +1,5 @@
-use Rattle.std.proofs.Common.{length, take, ap, ◌∙◌, arith}
+use Rattle.std.proofs.Common.{ℕ, List, length, take, refl, ap, ◌∙◌, arith}
+use Rattle.server_model.specs.Held.{Held}
 use Rattle.lt_world.specs.Trace.{Wrote, NotYet, Failed, Writing}
 use Rattle.server_core.specs.Served.{served}
 use Rattle.server_model.specs.Steps.{number_of}
@@ -6,6 +7,8 @@ use Rattle.server_model.proofs.WriteSteps.{write_idle}
 use Rattle.server_model.specs.Turns.{NoReadFailed}
 use Rattle.server_core.specs.Steps.{FailsFor, seen_as}
 use Rattle.server_core.proofs.Stepped.{none_owed, some_owed, fit_lie, fault_later, faults_goes, offered_not_yet, offered_failed, offered_wrote, tells_at, wrote_idle, wrote_free, wrote_fits, still_same, same_table}
+use Rattle.server_core.specs.Offers.{OffersOn}
+use Rattle.server_core.proofs.Offering.{gains_none, gains_one}
 use Rattle.server_core.proofs.step.write_for.Goals as goal
 
 pub returns-then-not-owes-clause-goes : goal.returns-then-not-owes-clause-goes
@@ -51,3 +54,19 @@ returns-in-Failed-clause-goes g c later more same =
     offered_failed (NoReadFailed (seen_as (g.F.Files.disk c.args.files.now) (g.F.Files.faults c.args.files.now) (g.F.Files.failed_read c.args.files.now)) later) (FailsFor c.args.conn.now.held.link (seen_as (g.F.Files.disk c.args.files.now) (g.F.Files.faults c.args.files.now) (g.F.Files.failed_read c.args.files.now)) later) (served c.args.site.now) c.args.conn.now.held c.stage.new.self.held g.N.Net.tells g.F.Files.tells (g.F.Files.disk c.args.files.now) (g.F.Files.disk c.stage.new.files) (g.N.Net.trace c.args.net.now) (g.N.Net.trace c.write.new.self)
     c.in-Ok.ensures.held (some_owed c.args.conn.now.held.owed c.if-not-owes.ensures.owes) c.in-Ok.ensures.shows c.in-Ok.ensures.disk c.offer.result.now c.offer.ensures.leads (omega (arith, c.in-Ok.ensures.ready (some_owed c.args.conn.now.held.owed c.if-not-owes.ensures.owes), ap length c.offer.ensures.front)) c.offer.ensures.most (λ f. same f ∙ c.in-Ok.ensures.read f)
     (λ t. tells_at c.link.result.0 c.stage.new.self.held.link (Failed Writing) (g.N.Net.trace c.args.net.now) (g.N.Net.trace c.write.new.self) c.link.ensures.link (c.in-Failed.ensures.trace t))
+
+pub returns-then-not-owes-clause-offers : goal.returns-then-not-owes-clause-offers
+returns-then-not-owes-clause-offers g c t = gains_none (OffersOn c.args.conn.now.held.link c.args.conn.now.offers) (g.N.Net.trace c.args.net.now) (g.N.Net.trace c.args.net.now) refl
+
+pub returns-in_default-clause-offers : goal.returns-in_default-clause-offers
+returns-in_default-clause-offers g c t = gains_none (OffersOn c.args.conn.now.held.link c.args.conn.now.offers) (g.N.Net.trace c.args.net.now) (g.N.Net.trace c.args.net.now) refl
+
+pub returns-in-Bytes-clause-offers : goal.returns-in-Bytes-clause-offers
+returns-in-Bytes-clause-offers g c t = gains_one (OffersOn c.args.conn.now.held.link c.args.conn.now.offers) c.link.result.0 (Wrote (length c.offer.result.now) (take c.in-Bytes.n c.offer.result.now)) (g.N.Net.trace c.args.net.now) (g.N.Net.trace c.write.new.self) (c.in-Bytes.ensures.trace t)
+    (c.link.ensures.link ∙ ap (λ (h : Held). h.link) c.in-Ok.ensures.held, ap (λ (l : List ℕ). length l) c.offer.ensures.front ∙ c.in-Ok.ensures.offers)
+
+pub returns-in-NotYet-clause-offers : goal.returns-in-NotYet-clause-offers
+returns-in-NotYet-clause-offers g c t = gains_one (OffersOn c.args.conn.now.held.link c.args.conn.now.offers) c.link.result.0 (NotYet Writing) (g.N.Net.trace c.args.net.now) (g.N.Net.trace c.write.new.self) (c.in-NotYet.ensures.trace t) tt
+
+pub returns-in-Failed-clause-offers : goal.returns-in-Failed-clause-offers
+returns-in-Failed-clause-offers g c t = gains_one (OffersOn c.args.conn.now.held.link c.args.conn.now.offers) c.link.result.0 (Failed Writing) (g.N.Net.trace c.args.net.now) (g.N.Net.trace c.write.new.self) (c.in-Failed.ensures.trace t) tt

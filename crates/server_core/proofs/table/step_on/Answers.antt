@@ -6,9 +6,13 @@ use Rattle.server_model.proofs.Going.{stop_closed}
 use Rattle.server_model.proofs.Turning.{turn_out, kept_fits}
 use Rattle.connection.specs.Connection.{Connected}
 use Rattle.server_core.specs.Steps.{event_of, seen_as}
-use Rattle.server_core.specs.Table.{helds, serving}
+use Rattle.server_core.specs.Table.{helds, offers_of, serving}
 use Rattle.server_core.proofs.Listed.{place_below, place_link, place_kept, place_within, place_resting, place_set, place_removed, place_set_kept, place_removed_kept, closing_within}
 use Rattle.server_core.proofs.Tabled.{is_ready, is_quiet, place_as, none_as, lent_at, close_told, drops_at, conns_turn, conns_backs, conns_table, taken_is, within_as, kept_as}
+use Rattle.lt_world.specs.Trace.{Close}
+use Rattle.server_core.specs.Offers.{OffersIn}
+use Rattle.server_core.proofs.Offering.{gains_none, gains_one, gains_both, place_offers}
+use Rattle.server_core.proofs.Placed.{places_set}
 use Rattle.server_core.proofs.table.step_on.Goals as goal
 
 pub returns-in_default-clause-turn : goal.returns-in_default-clause-turn
@@ -47,38 +51,56 @@ returns-in_default-step_for-clause-backs g c f = conns_backs (event_of c.args.re
     (c.in_default-step_for.ensures.goes (seen_as (g.F.Files.disk c.step_for.new.files) (g.F.Files.faults c.step_for.new.files) (g.F.Files.failed_read c.step_for.new.files)) (omega arith) (λ f. refl)) f
 
 pub finish-requires-clause-known : goal.finish-requires-clause-known
-finish-requires-clause-known g c = omega (arith, c.requires.known, place_link c.args.link.0 c.args.clients.now.items c.in-Some.i c.conn_mut.result.now (place_as c.args.link.0 c.args.clients.now.items c.deref.result.now c.in-Some.i c.deref.ensures.value c.in-Some.ensures) (lent_at c.args.clients.now.items c.in-Some.i c.index_mut-client.result.now c.conn_mut.result.now c.conn_mut.ensures.value c.index_mut-client.ensures.value), c.step_for.ensures.link, c.step_for.ensures.links, ap (λ (k : Connected). k.held.link) (taken_is c.args.clients.now.items c.in-Some.i c.step_for.new.conn c.into_conn.result (place_below c.args.link.0 c.args.clients.now.items c.in-Some.i c.conn_mut.result.now (place_as c.args.link.0 c.args.clients.now.items c.deref.result.now c.in-Some.i c.deref.ensures.value c.in-Some.ensures) (lent_at c.args.clients.now.items c.in-Some.i c.index_mut-client.result.now c.conn_mut.result.now c.conn_mut.ensures.value c.index_mut-client.ensures.value)) (lent_at (set c.args.clients.now.items c.in-Some.i c.step_for.new.conn) c.in-Some.i c.remove.result c.into_conn.result c.into_conn.ensures c.remove.ensures.value)))
+finish-requires-clause-known g c = omega (arith, c.requires.known, place_link c.args.link.0 c.args.clients.now.items c.in-Some.i c.conn_mut.result.now (place_as c.args.link.0 c.args.clients.now.items c.deref.result.now c.in-Some.i c.deref.ensures.value c.in-Some.ensures) (lent_at c.args.clients.now.items c.in-Some.i c.index_mut-client.result.now c.conn_mut.result.now c.conn_mut.ensures.value c.index_mut-client.ensures.value), c.step_for.ensures.link, c.step_for.ensures.links, ap (λ (k : Connected). k.held.link) (taken_is c.args.clients.now.items c.in-Some.i c.step_for.new.conn c.take_out.result (place_below c.args.link.0 c.args.clients.now.items c.in-Some.i c.conn_mut.result.now (place_as c.args.link.0 c.args.clients.now.items c.deref.result.now c.in-Some.i c.deref.ensures.value c.in-Some.ensures) (lent_at c.args.clients.now.items c.in-Some.i c.index_mut-client.result.now c.conn_mut.result.now c.conn_mut.ensures.value c.index_mut-client.ensures.value)) c.take_out.ensures.value))
 
 pub finish-requires-clause-counted : goal.finish-requires-clause-counted
-finish-requires-clause-counted g c = within_as c.step_for.new.store c.into_conn.result c.step_for.new.conn (taken_is c.args.clients.now.items c.in-Some.i c.step_for.new.conn c.into_conn.result (place_below c.args.link.0 c.args.clients.now.items c.in-Some.i c.conn_mut.result.now (place_as c.args.link.0 c.args.clients.now.items c.deref.result.now c.in-Some.i c.deref.ensures.value c.in-Some.ensures) (lent_at c.args.clients.now.items c.in-Some.i c.index_mut-client.result.now c.conn_mut.result.now c.conn_mut.ensures.value c.index_mut-client.ensures.value)) (lent_at (set c.args.clients.now.items c.in-Some.i c.step_for.new.conn) c.in-Some.i c.remove.result c.into_conn.result c.into_conn.ensures c.remove.ensures.value)) (closing_within c.args.link.0 c.args.clients.now.items c.in-Some.i c.conn_mut.result.now (place_as c.args.link.0 c.args.clients.now.items c.deref.result.now c.in-Some.i c.deref.ensures.value c.in-Some.ensures) (lent_at c.args.clients.now.items c.in-Some.i c.index_mut-client.result.now c.conn_mut.result.now c.conn_mut.ensures.value c.index_mut-client.ensures.value) c.args.store.now c.requires.kept c.step_for.new.conn c.step_for.new.store c.step_for.ensures.kept)
+finish-requires-clause-counted g c = within_as c.step_for.new.store c.take_out.result c.step_for.new.conn (taken_is c.args.clients.now.items c.in-Some.i c.step_for.new.conn c.take_out.result (place_below c.args.link.0 c.args.clients.now.items c.in-Some.i c.conn_mut.result.now (place_as c.args.link.0 c.args.clients.now.items c.deref.result.now c.in-Some.i c.deref.ensures.value c.in-Some.ensures) (lent_at c.args.clients.now.items c.in-Some.i c.index_mut-client.result.now c.conn_mut.result.now c.conn_mut.ensures.value c.index_mut-client.ensures.value)) c.take_out.ensures.value) (closing_within c.args.link.0 c.args.clients.now.items c.in-Some.i c.conn_mut.result.now (place_as c.args.link.0 c.args.clients.now.items c.deref.result.now c.in-Some.i c.deref.ensures.value c.in-Some.ensures) (lent_at c.args.clients.now.items c.in-Some.i c.index_mut-client.result.now c.conn_mut.result.now c.conn_mut.ensures.value c.index_mut-client.ensures.value) c.args.store.now c.requires.kept c.step_for.new.conn c.step_for.new.store c.step_for.ensures.kept)
 
 pub returns-clause-turn : goal.returns-clause-turn
-returns-clause-turn g c = conns_turn (event_of c.args.ready) (is_ready c.args.ready) c.args.link.0 (served c.args.site.now) c.args.clients.now.items c.remove.new.self.items c.conn_mut.result.now.held None g.N.Net.tells g.F.Files.tells (seen_as (g.F.Files.disk c.args.files.now) (g.F.Files.faults c.args.files.now) (g.F.Files.failed_read c.args.files.now)) (seen_as (g.F.Files.disk c.finish.new.files) (g.F.Files.faults c.finish.new.files) (g.F.Files.failed_read c.finish.new.files)) (g.N.Net.trace c.args.net.now) (g.N.Net.trace c.finish.new.net)
+returns-clause-turn g c = conns_turn (event_of c.args.ready) (is_ready c.args.ready) c.args.link.0 (served c.args.site.now) c.args.clients.now.items c.take_out.new.clients.items c.conn_mut.result.now.held None g.N.Net.tells g.F.Files.tells (seen_as (g.F.Files.disk c.args.files.now) (g.F.Files.faults c.args.files.now) (g.F.Files.failed_read c.args.files.now)) (seen_as (g.F.Files.disk c.finish.new.files) (g.F.Files.faults c.finish.new.files) (g.F.Files.failed_read c.finish.new.files)) (g.N.Net.trace c.args.net.now) (g.N.Net.trace c.finish.new.net)
     (place_link c.args.link.0 c.args.clients.now.items c.in-Some.i c.conn_mut.result.now (place_as c.args.link.0 c.args.clients.now.items c.deref.result.now c.in-Some.i c.deref.ensures.value c.in-Some.ensures) (lent_at c.args.clients.now.items c.in-Some.i c.index_mut-client.result.now c.conn_mut.result.now c.conn_mut.ensures.value c.index_mut-client.ensures.value)) (place_kept c.args.link.0 c.args.clients.now.items c.in-Some.i c.conn_mut.result.now (place_as c.args.link.0 c.args.clients.now.items c.deref.result.now c.in-Some.i c.deref.ensures.value c.in-Some.ensures) (lent_at c.args.clients.now.items c.in-Some.i c.index_mut-client.result.now c.conn_mut.result.now c.conn_mut.ensures.value c.index_mut-client.ensures.value) c.requires.kept.rising)
-    (place_removed c.args.link.0 c.args.clients.now.items c.in-Some.i c.conn_mut.result.now (place_as c.args.link.0 c.args.clients.now.items c.deref.result.now c.in-Some.i c.deref.ensures.value c.in-Some.ensures) (lent_at c.args.clients.now.items c.in-Some.i c.index_mut-client.result.now c.conn_mut.result.now c.conn_mut.ensures.value c.index_mut-client.ensures.value) c.requires.kept.rising c.step_for.new.conn c.remove.new.self.items c.remove.ensures.by_index.2) c.requires.backs
+    (place_removed c.args.link.0 c.args.clients.now.items c.in-Some.i c.conn_mut.result.now (place_as c.args.link.0 c.args.clients.now.items c.deref.result.now c.in-Some.i c.deref.ensures.value c.in-Some.ensures) (lent_at c.args.clients.now.items c.in-Some.i c.index_mut-client.result.now c.conn_mut.result.now c.conn_mut.ensures.value c.index_mut-client.ensures.value) c.requires.kept.rising c.step_for.new.conn c.take_out.new.clients.items c.take_out.ensures.items) c.requires.backs
     (stop_closed Stands (DueOn (event_of c.args.ready) (seen_as (g.F.Files.disk c.args.files.now) (g.F.Files.faults c.args.files.now) (g.F.Files.failed_read c.args.files.now)) (seen_as (g.F.Files.disk c.finish.new.files) (g.F.Files.faults c.finish.new.files) (g.F.Files.failed_read c.finish.new.files)) c.conn_mut.result.now.held.link) (served c.args.site.now) c.conn_mut.result.now.held c.step_for.new.conn.held c.in-Some-step_for.ending g.N.Net.tells g.F.Files.tells (g.F.Files.disk c.args.files.now) (g.F.Files.disk c.step_for.new.files) (g.F.Files.disk c.finish.new.files) (g.N.Net.trace c.args.net.now) (g.N.Net.trace c.step_for.new.net) (g.N.Net.trace c.finish.new.net)
     (c.in-Some-step_for.ensures.goes (seen_as (g.F.Files.disk c.finish.new.files) (g.F.Files.faults c.finish.new.files) (g.F.Files.failed_read c.finish.new.files)) (g.met.F.Files.later_faults c.step_for.new.files c.finish.new.files c.finish.ensures.later) c.finish.ensures.failed_read)
-    (λ t. close_told c.into_conn.result.held.link c.step_for.new.conn.held.link c.in-Some-step_for.ending (g.N.Net.trace c.step_for.new.net) (g.N.Net.trace c.finish.new.net) (ap (λ (k : Connected). k.held.link) (taken_is c.args.clients.now.items c.in-Some.i c.step_for.new.conn c.into_conn.result (place_below c.args.link.0 c.args.clients.now.items c.in-Some.i c.conn_mut.result.now (place_as c.args.link.0 c.args.clients.now.items c.deref.result.now c.in-Some.i c.deref.ensures.value c.in-Some.ensures) (lent_at c.args.clients.now.items c.in-Some.i c.index_mut-client.result.now c.conn_mut.result.now c.conn_mut.ensures.value c.index_mut-client.ensures.value)) (lent_at (set c.args.clients.now.items c.in-Some.i c.step_for.new.conn) c.in-Some.i c.remove.result c.into_conn.result c.into_conn.ensures c.remove.ensures.value))) (c.finish.ensures.trace t))
-    (λ f. drops_at c.into_conn.result c.step_for.new.conn (g.F.Files.disk c.step_for.new.files) (g.F.Files.disk c.finish.new.files) (taken_is c.args.clients.now.items c.in-Some.i c.step_for.new.conn c.into_conn.result (place_below c.args.link.0 c.args.clients.now.items c.in-Some.i c.conn_mut.result.now (place_as c.args.link.0 c.args.clients.now.items c.deref.result.now c.in-Some.i c.deref.ensures.value c.in-Some.ensures) (lent_at c.args.clients.now.items c.in-Some.i c.index_mut-client.result.now c.conn_mut.result.now c.conn_mut.ensures.value c.index_mut-client.ensures.value)) (lent_at (set c.args.clients.now.items c.in-Some.i c.step_for.new.conn) c.in-Some.i c.remove.result c.into_conn.result c.into_conn.ensures c.remove.ensures.value)) (c.finish.ensures.drops f))) (g.met.F.Files.later_faults c.args.files.now c.finish.new.files (g.met.F.Files.later_later c.args.files.now c.step_for.new.files c.finish.new.files c.step_for.ensures.later c.finish.ensures.later))
+    (λ t. close_told c.take_out.result.held.link c.step_for.new.conn.held.link c.in-Some-step_for.ending (g.N.Net.trace c.step_for.new.net) (g.N.Net.trace c.finish.new.net) (ap (λ (k : Connected). k.held.link) (taken_is c.args.clients.now.items c.in-Some.i c.step_for.new.conn c.take_out.result (place_below c.args.link.0 c.args.clients.now.items c.in-Some.i c.conn_mut.result.now (place_as c.args.link.0 c.args.clients.now.items c.deref.result.now c.in-Some.i c.deref.ensures.value c.in-Some.ensures) (lent_at c.args.clients.now.items c.in-Some.i c.index_mut-client.result.now c.conn_mut.result.now c.conn_mut.ensures.value c.index_mut-client.ensures.value)) c.take_out.ensures.value)) (c.finish.ensures.trace t))
+    (λ f. drops_at c.take_out.result c.step_for.new.conn (g.F.Files.disk c.step_for.new.files) (g.F.Files.disk c.finish.new.files) (taken_is c.args.clients.now.items c.in-Some.i c.step_for.new.conn c.take_out.result (place_below c.args.link.0 c.args.clients.now.items c.in-Some.i c.conn_mut.result.now (place_as c.args.link.0 c.args.clients.now.items c.deref.result.now c.in-Some.i c.deref.ensures.value c.in-Some.ensures) (lent_at c.args.clients.now.items c.in-Some.i c.index_mut-client.result.now c.conn_mut.result.now c.conn_mut.ensures.value c.index_mut-client.ensures.value)) c.take_out.ensures.value) (c.finish.ensures.drops f))) (g.met.F.Files.later_faults c.args.files.now c.finish.new.files (g.met.F.Files.later_later c.args.files.now c.step_for.new.files c.finish.new.files c.step_for.ensures.later c.finish.ensures.later))
 
 pub returns-clause-kept : goal.returns-clause-kept
-returns-clause-kept g c = place_removed_kept c.args.link.0 c.args.clients.now.items c.in-Some.i c.conn_mut.result.now (place_as c.args.link.0 c.args.clients.now.items c.deref.result.now c.in-Some.i c.deref.ensures.value c.in-Some.ensures) (lent_at c.args.clients.now.items c.in-Some.i c.index_mut-client.result.now c.conn_mut.result.now c.conn_mut.ensures.value c.index_mut-client.ensures.value) c.args.store.now c.requires.kept c.step_for.new.conn c.step_for.new.store c.step_for.ensures.kept c.finish.new.store (kept_as c.step_for.new.store c.finish.new.store c.into_conn.result c.step_for.new.conn (taken_is c.args.clients.now.items c.in-Some.i c.step_for.new.conn c.into_conn.result (place_below c.args.link.0 c.args.clients.now.items c.in-Some.i c.conn_mut.result.now (place_as c.args.link.0 c.args.clients.now.items c.deref.result.now c.in-Some.i c.deref.ensures.value c.in-Some.ensures) (lent_at c.args.clients.now.items c.in-Some.i c.index_mut-client.result.now c.conn_mut.result.now c.conn_mut.ensures.value c.index_mut-client.ensures.value)) (lent_at (set c.args.clients.now.items c.in-Some.i c.step_for.new.conn) c.in-Some.i c.remove.result c.into_conn.result c.into_conn.ensures c.remove.ensures.value)) c.finish.ensures.kept) c.step_for.new.conn c.remove.new.self.items c.remove.ensures.by_index.2
+returns-clause-kept g c = place_removed_kept c.args.link.0 c.args.clients.now.items c.in-Some.i c.conn_mut.result.now (place_as c.args.link.0 c.args.clients.now.items c.deref.result.now c.in-Some.i c.deref.ensures.value c.in-Some.ensures) (lent_at c.args.clients.now.items c.in-Some.i c.index_mut-client.result.now c.conn_mut.result.now c.conn_mut.ensures.value c.index_mut-client.ensures.value) c.args.store.now c.requires.kept c.step_for.new.conn c.step_for.new.store c.step_for.ensures.kept c.finish.new.store (kept_as c.step_for.new.store c.finish.new.store c.take_out.result c.step_for.new.conn (taken_is c.args.clients.now.items c.in-Some.i c.step_for.new.conn c.take_out.result (place_below c.args.link.0 c.args.clients.now.items c.in-Some.i c.conn_mut.result.now (place_as c.args.link.0 c.args.clients.now.items c.deref.result.now c.in-Some.i c.deref.ensures.value c.in-Some.ensures) (lent_at c.args.clients.now.items c.in-Some.i c.index_mut-client.result.now c.conn_mut.result.now c.conn_mut.ensures.value c.index_mut-client.ensures.value)) c.take_out.ensures.value) c.finish.ensures.kept) c.step_for.new.conn c.take_out.new.clients.items c.take_out.ensures.items
 
 pub returns-clause-table : goal.returns-clause-table
-returns-clause-table g c is = conns_table (g.N.Net.links c.args.net.now) (g.N.Net.links c.finish.new.net) c.args.link.0 c.args.clients.now.items c.remove.new.self.items None
-    (place_removed c.args.link.0 c.args.clients.now.items c.in-Some.i c.conn_mut.result.now (place_as c.args.link.0 c.args.clients.now.items c.deref.result.now c.in-Some.i c.deref.ensures.value c.in-Some.ensures) (lent_at c.args.clients.now.items c.in-Some.i c.index_mut-client.result.now c.conn_mut.result.now c.conn_mut.ensures.value c.index_mut-client.ensures.value) c.requires.kept.rising c.step_for.new.conn c.remove.new.self.items c.remove.ensures.by_index.2) (c.finish.ensures.links ∙ c.step_for.ensures.links) c.requires.known is
+returns-clause-table g c is = conns_table (g.N.Net.links c.args.net.now) (g.N.Net.links c.finish.new.net) c.args.link.0 c.args.clients.now.items c.take_out.new.clients.items None
+    (place_removed c.args.link.0 c.args.clients.now.items c.in-Some.i c.conn_mut.result.now (place_as c.args.link.0 c.args.clients.now.items c.deref.result.now c.in-Some.i c.deref.ensures.value c.in-Some.ensures) (lent_at c.args.clients.now.items c.in-Some.i c.index_mut-client.result.now c.conn_mut.result.now c.conn_mut.ensures.value c.index_mut-client.ensures.value) c.requires.kept.rising c.step_for.new.conn c.take_out.new.clients.items c.take_out.ensures.items) (c.finish.ensures.links ∙ c.step_for.ensures.links) c.requires.known is
 
 pub returns-clause-backs : goal.returns-clause-backs
-returns-clause-backs g c f = conns_backs (event_of c.args.ready) (is_ready c.args.ready) c.args.link.0 (served c.args.site.now) c.args.clients.now.items c.remove.new.self.items c.conn_mut.result.now.held None g.N.Net.tells g.F.Files.tells (seen_as (g.F.Files.disk c.args.files.now) (g.F.Files.faults c.args.files.now) (g.F.Files.failed_read c.args.files.now)) (seen_as (g.F.Files.disk c.finish.new.files) (g.F.Files.faults c.finish.new.files) (g.F.Files.failed_read c.finish.new.files)) (g.N.Net.trace c.args.net.now) (g.N.Net.trace c.finish.new.net)
+returns-clause-backs g c f = conns_backs (event_of c.args.ready) (is_ready c.args.ready) c.args.link.0 (served c.args.site.now) c.args.clients.now.items c.take_out.new.clients.items c.conn_mut.result.now.held None g.N.Net.tells g.F.Files.tells (seen_as (g.F.Files.disk c.args.files.now) (g.F.Files.faults c.args.files.now) (g.F.Files.failed_read c.args.files.now)) (seen_as (g.F.Files.disk c.finish.new.files) (g.F.Files.faults c.finish.new.files) (g.F.Files.failed_read c.finish.new.files)) (g.N.Net.trace c.args.net.now) (g.N.Net.trace c.finish.new.net)
     (place_link c.args.link.0 c.args.clients.now.items c.in-Some.i c.conn_mut.result.now (place_as c.args.link.0 c.args.clients.now.items c.deref.result.now c.in-Some.i c.deref.ensures.value c.in-Some.ensures) (lent_at c.args.clients.now.items c.in-Some.i c.index_mut-client.result.now c.conn_mut.result.now c.conn_mut.ensures.value c.index_mut-client.ensures.value)) (place_kept c.args.link.0 c.args.clients.now.items c.in-Some.i c.conn_mut.result.now (place_as c.args.link.0 c.args.clients.now.items c.deref.result.now c.in-Some.i c.deref.ensures.value c.in-Some.ensures) (lent_at c.args.clients.now.items c.in-Some.i c.index_mut-client.result.now c.conn_mut.result.now c.conn_mut.ensures.value c.index_mut-client.ensures.value) c.requires.kept.rising)
-    (place_removed c.args.link.0 c.args.clients.now.items c.in-Some.i c.conn_mut.result.now (place_as c.args.link.0 c.args.clients.now.items c.deref.result.now c.in-Some.i c.deref.ensures.value c.in-Some.ensures) (lent_at c.args.clients.now.items c.in-Some.i c.index_mut-client.result.now c.conn_mut.result.now c.conn_mut.ensures.value c.index_mut-client.ensures.value) c.requires.kept.rising c.step_for.new.conn c.remove.new.self.items c.remove.ensures.by_index.2) c.requires.backs
+    (place_removed c.args.link.0 c.args.clients.now.items c.in-Some.i c.conn_mut.result.now (place_as c.args.link.0 c.args.clients.now.items c.deref.result.now c.in-Some.i c.deref.ensures.value c.in-Some.ensures) (lent_at c.args.clients.now.items c.in-Some.i c.index_mut-client.result.now c.conn_mut.result.now c.conn_mut.ensures.value c.index_mut-client.ensures.value) c.requires.kept.rising c.step_for.new.conn c.take_out.new.clients.items c.take_out.ensures.items) c.requires.backs
     (stop_closed Stands (DueOn (event_of c.args.ready) (seen_as (g.F.Files.disk c.args.files.now) (g.F.Files.faults c.args.files.now) (g.F.Files.failed_read c.args.files.now)) (seen_as (g.F.Files.disk c.finish.new.files) (g.F.Files.faults c.finish.new.files) (g.F.Files.failed_read c.finish.new.files)) c.conn_mut.result.now.held.link) (served c.args.site.now) c.conn_mut.result.now.held c.step_for.new.conn.held c.in-Some-step_for.ending g.N.Net.tells g.F.Files.tells (g.F.Files.disk c.args.files.now) (g.F.Files.disk c.step_for.new.files) (g.F.Files.disk c.finish.new.files) (g.N.Net.trace c.args.net.now) (g.N.Net.trace c.step_for.new.net) (g.N.Net.trace c.finish.new.net)
     (c.in-Some-step_for.ensures.goes (seen_as (g.F.Files.disk c.finish.new.files) (g.F.Files.faults c.finish.new.files) (g.F.Files.failed_read c.finish.new.files)) (g.met.F.Files.later_faults c.step_for.new.files c.finish.new.files c.finish.ensures.later) c.finish.ensures.failed_read)
-    (λ t. close_told c.into_conn.result.held.link c.step_for.new.conn.held.link c.in-Some-step_for.ending (g.N.Net.trace c.step_for.new.net) (g.N.Net.trace c.finish.new.net) (ap (λ (k : Connected). k.held.link) (taken_is c.args.clients.now.items c.in-Some.i c.step_for.new.conn c.into_conn.result (place_below c.args.link.0 c.args.clients.now.items c.in-Some.i c.conn_mut.result.now (place_as c.args.link.0 c.args.clients.now.items c.deref.result.now c.in-Some.i c.deref.ensures.value c.in-Some.ensures) (lent_at c.args.clients.now.items c.in-Some.i c.index_mut-client.result.now c.conn_mut.result.now c.conn_mut.ensures.value c.index_mut-client.ensures.value)) (lent_at (set c.args.clients.now.items c.in-Some.i c.step_for.new.conn) c.in-Some.i c.remove.result c.into_conn.result c.into_conn.ensures c.remove.ensures.value))) (c.finish.ensures.trace t))
-    (λ f. drops_at c.into_conn.result c.step_for.new.conn (g.F.Files.disk c.step_for.new.files) (g.F.Files.disk c.finish.new.files) (taken_is c.args.clients.now.items c.in-Some.i c.step_for.new.conn c.into_conn.result (place_below c.args.link.0 c.args.clients.now.items c.in-Some.i c.conn_mut.result.now (place_as c.args.link.0 c.args.clients.now.items c.deref.result.now c.in-Some.i c.deref.ensures.value c.in-Some.ensures) (lent_at c.args.clients.now.items c.in-Some.i c.index_mut-client.result.now c.conn_mut.result.now c.conn_mut.ensures.value c.index_mut-client.ensures.value)) (lent_at (set c.args.clients.now.items c.in-Some.i c.step_for.new.conn) c.in-Some.i c.remove.result c.into_conn.result c.into_conn.ensures c.remove.ensures.value)) (c.finish.ensures.drops f))) f
+    (λ t. close_told c.take_out.result.held.link c.step_for.new.conn.held.link c.in-Some-step_for.ending (g.N.Net.trace c.step_for.new.net) (g.N.Net.trace c.finish.new.net) (ap (λ (k : Connected). k.held.link) (taken_is c.args.clients.now.items c.in-Some.i c.step_for.new.conn c.take_out.result (place_below c.args.link.0 c.args.clients.now.items c.in-Some.i c.conn_mut.result.now (place_as c.args.link.0 c.args.clients.now.items c.deref.result.now c.in-Some.i c.deref.ensures.value c.in-Some.ensures) (lent_at c.args.clients.now.items c.in-Some.i c.index_mut-client.result.now c.conn_mut.result.now c.conn_mut.ensures.value c.index_mut-client.ensures.value)) c.take_out.ensures.value)) (c.finish.ensures.trace t))
+    (λ f. drops_at c.take_out.result c.step_for.new.conn (g.F.Files.disk c.step_for.new.files) (g.F.Files.disk c.finish.new.files) (taken_is c.args.clients.now.items c.in-Some.i c.step_for.new.conn c.take_out.result (place_below c.args.link.0 c.args.clients.now.items c.in-Some.i c.conn_mut.result.now (place_as c.args.link.0 c.args.clients.now.items c.deref.result.now c.in-Some.i c.deref.ensures.value c.in-Some.ensures) (lent_at c.args.clients.now.items c.in-Some.i c.index_mut-client.result.now c.conn_mut.result.now c.conn_mut.ensures.value c.index_mut-client.ensures.value)) c.take_out.ensures.value) (c.finish.ensures.drops f))) f
 
 pub returns-clause-net_later : goal.returns-clause-net_later
 returns-clause-net_later g c = g.met.N.Net.later_later c.args.net.now c.step_for.new.net c.finish.new.net c.step_for.ensures.net_later c.finish.ensures.net_later
 
 pub returns-clause-later : goal.returns-clause-later
 returns-clause-later g c = g.met.F.Files.later_later c.args.files.now c.step_for.new.files c.finish.new.files c.step_for.ensures.later c.finish.ensures.later
+
+pub returns-in_default-clause-offers : goal.returns-in_default-clause-offers
+returns-in_default-clause-offers g c t = gains_none (OffersIn (helds c.args.clients.now.items) (offers_of c.args.clients.now.items)) (g.N.Net.trace c.args.net.now) (g.N.Net.trace c.args.net.now) refl
+
+pub returns-in_default-step_for-clause-offers : goal.returns-in_default-step_for-clause-offers
+returns-in_default-step_for-clause-offers g c t = place_offers c.args.link.0 c.args.clients.now.items c.in-Some.i c.conn_mut.result.now (place_as c.args.link.0 c.args.clients.now.items c.deref.result.now c.in-Some.i c.deref.ensures.value c.in-Some.ensures) (lent_at c.args.clients.now.items c.in-Some.i c.index_mut-client.result.now c.conn_mut.result.now c.conn_mut.ensures.value c.index_mut-client.ensures.value) c.requires.kept.rising (g.N.Net.trace c.args.net.now) (g.N.Net.trace c.step_for.new.net) (c.step_for.ensures.offers t)
+
+pub returns-clause-offers : goal.returns-clause-offers
+returns-clause-offers g c t =
+    gains_both (OffersIn (helds c.args.clients.now.items) (offers_of c.args.clients.now.items)) (g.N.Net.trace c.args.net.now) (g.N.Net.trace c.step_for.new.net) (g.N.Net.trace c.finish.new.net)
+    (place_offers c.args.link.0 c.args.clients.now.items c.in-Some.i c.conn_mut.result.now (place_as c.args.link.0 c.args.clients.now.items c.deref.result.now c.in-Some.i c.deref.ensures.value c.in-Some.ensures) (lent_at c.args.clients.now.items c.in-Some.i c.index_mut-client.result.now c.conn_mut.result.now c.conn_mut.ensures.value c.index_mut-client.ensures.value) c.requires.kept.rising (g.N.Net.trace c.args.net.now) (g.N.Net.trace c.step_for.new.net) (c.step_for.ensures.offers t))
+    (gains_one (OffersIn (helds c.args.clients.now.items) (offers_of c.args.clients.now.items)) c.take_out.result.held.link (Close c.in-Some-step_for.ending) (g.N.Net.trace c.step_for.new.net) (g.N.Net.trace c.finish.new.net) (c.finish.ensures.trace t) tt)
+
+pub returns-in_default-step_for-clause-places : goal.returns-in_default-step_for-clause-places
+returns-in_default-step_for-clause-places g c = places_set c.args.clients.now.items c.args.places.now.items c.in-Some.i c.step_for.new.conn _ _ c.requires.places
+
+pub take_out-requires-clause-places : goal.take_out-requires-clause-places
+take_out-requires-clause-places g c = places_set c.args.clients.now.items c.args.places.now.items c.in-Some.i c.step_for.new.conn _ _ c.requires.places
