@@ -53,7 +53,7 @@ settled world may act past now faulted e wants (fails f) is = closed ending.Clie
 settled world may act past now faulted e wants (yields m) is = closed ending.NoMemory e (Ours act ∷ past) faulted is (wants m)
 
 wants_read : (act : Act) (acts : List Act) → may_want_after_read act ≡ true → is_behind_want (Close ending.NoMemory ∷ act ∷ acts) ≡ true
-wants_read (Accepted peer local) acts may = refl
+wants_read (Accepted peer local) acts may = absurd (cc (may))
 wants_read Readable acts may = absurd (cc (may))
 wants_read Writable acts may = absurd (cc (may))
 wants_read (Read asked bytes) acts may = refl
@@ -65,7 +65,7 @@ wants_read (Connect owner to link) acts may = absurd (cc (may))
 wants_read (Close e) acts may = absurd (cc (may))
 
 wants_write : (due : List ℕ) (act : Act) (acts : List Act) → may_want_after_write due act ≡ true → is_behind_want (Close ending.NoMemory ∷ act ∷ acts) ≡ true
-wants_write due (Accepted peer local) acts may = refl
+wants_write due (Accepted peer local) acts may = absurd (cc (may))
 wants_write due Readable acts may = absurd (cc (may))
 wants_write due Writable acts may = absurd (cc (may))
 wants_write due (Read asked bytes) acts may = refl
