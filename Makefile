@@ -1,10 +1,11 @@
 # With no target: what there is.
-.PHONY: help demo prove minutes
+.PHONY: help demo prove minutes names
 
 help:
 	@echo 'make demo      compile the server without proving it, replay examples/hello.script, print its report'
 	@echo 'make prove     prove every crate, try the must-fail edits, run the tests and the programs (rt ci)'
 	@echo 'make minutes   the processor minutes of the last such run, a crate each'
+	@echo 'make names     the laws and clauses that the documents name and that are not there'
 
 # `rt try` runs in a folder of its own, which gets the two files.
 demo:
@@ -17,3 +18,6 @@ prove:
 
 minutes:
 	@python3 bench/minutes.py
+
+names:
+	@python3 bench/named.py
