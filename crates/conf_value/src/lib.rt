@@ -5,10 +5,14 @@
 //! Stands on `lt_bytes`.
 #![tactic(auto)]
 
+mod address;
 mod block;
 mod condition;
+mod truth;
 mod value;
 
+pub use address::{Network, read_address, read_network};
 pub use block::{Block, Config, Setting, Warning};
 pub use condition::{Condition, Field, Op};
+pub use truth::Truth;
 pub use value::{Pair, Value};
