@@ -33,7 +33,10 @@ pub fn read_network(text: &[u8]) -> Option<Network>
         Some((address, bits)) => {
             let address = read_address(address)?;
             let bits = number_up_to(32, bits)?;
-            Some(Network { address, bits: bits as u32 })
+            Some(Network {
+                address,
+                bits: bits as u32,
+            })
         }
         None => match read_address(text) {
             Some(address) => Some(Network { address, bits: 32 }),

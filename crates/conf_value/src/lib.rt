@@ -6,13 +6,22 @@
 #![tactic(auto)]
 
 mod address;
+mod array;
 mod block;
 mod condition;
+mod copying;
+mod joining;
+mod places;
 mod truth;
 mod value;
 
 pub use address::{Network, read_address, read_network};
+pub use array::{add_pair, array_of};
 pub use block::{Block, Config, Setting, Warning};
 pub use condition::{Condition, Field, Op};
+pub use joining::{JoinFault, join};
 pub use truth::Truth;
 pub use value::{Pair, Value};
+
+#[cfg(test)]
+mod tests;
