@@ -390,8 +390,9 @@ impl Conn {
         ensures offers { OnOk result (length self.new.front ≡ self.old.offers) }
         ensures err { OnErr result (self.new.held ≡ self.old.held) }
         ensures cause { OnErr result (Rose (F.faults files.old) (F.faults files.new)) }
-        ensures owner { OnErr result (F.tells → F.failed_read files.new ≡ Some (record { conn = self.old.held.link; request = number_of self.old.held.stage })) }
-        ensures read { OnOk result (F.tells → F.failed_read files.new ≡ F.failed_read files.old) }
+        ensures owner { OnErr result ((F.reads files.new).failed ≡ Some (record { conn = self.old.held.link; request = number_of self.old.held.stage })) }
+        ensures read { OnOk result ((F.reads files.new).failed ≡ (F.reads files.old).failed) }
+        ensures once { (F.reads files.new).made ≤ (F.reads files.old).made + 1 }
         ensures disk { F.tells → F.disk files.new ≡ F.disk files.old }
         ensures faults { F.faults files.old ≤ F.faults files.new }
         ensures later { F.later files.old files.new }

@@ -9,6 +9,7 @@
 #![tactic(auto)]
 
 mod connection;
+pub mod laws;
 mod looking;
 mod progress;
 mod stage;

@@ -6,7 +6,7 @@ ghost use Rattle.connection.specs.Connection.{file_number, IsBodyOf};
 
 use chunkqueue::{Chunks, Queue, Store};
 use connection::{Conn, INPUT_LIMIT, Stage};
-use lt_world::{Address, Fault, FileId, Files, Found, Link, Opened, Owner};
+use lt_world::{Address, Fault, FileId, Files, Found, Link, Opened, Owner, ReadLog};
 use std::alloc::Global;
 use std::process::Abort;
 
@@ -19,7 +19,9 @@ const FILE: FileId = FileId(7);
 
 /// Files with the byte `f` at each place.
 #[derive(Drop)]
-struct Same;
+struct Same {
+    reads: ReadLog,
+}
 
 impl Files for Same {
     ghost use Rattle.std.specs.Prelude.{None, []};
@@ -32,7 +34,7 @@ impl Files for Same {
 
     ghost faults = { λ _. 0 };
 
-    ghost failed_read = { λ _. None };
+    ghost reads = { λ files. files.reads };
 
     ghost later = { λ _ _. Unit {0} };
 
@@ -52,12 +54,13 @@ impl Files for Same {
 
     fn read_at(
         &mut self,
-        _owner: Owner,
+        owner: Owner,
         _file: FileId,
         _start: u64,
         buf: &mut [u8],
     ) -> Result<(), Fault> {
         buf.fill(b'f');
+        self.reads.add(owner, &Ok(()));
         Ok(())
     }
 
@@ -167,7 +170,12 @@ fn took(rt: &impl Abort, conn: &mut Conn, store: &mut Store, bytes: &[u8], file:
     requires { HeldWithin store.old (length conn.old.numbers) }
     ensures { HeldWithin store.new (length conn.new.numbers) }
 {
-    let staged = conn.stage(store, &mut Same);
+    let staged = conn.stage(
+        store,
+        &mut Same {
+            reads: ReadLog::new(),
+        },
+    );
     assert!(rt; staged.is_ok());
     assert!(rt; conn.owes() && conn.offer().starts_with(bytes));
     let freed = conn.wrote(store, bytes.len());
