@@ -1,18 +1,21 @@
 -- Files that are given back, one client after the other.
-use Rattle.std.proofs.Common.{◌≡◌, ℕ, List, [], ◌∷◌, ◌++◌, length, Option, Some, None, append-nil, refl, sym, ◌∙◌, ap, inl, inr}
+use Rattle.std.proofs.Common.{◌≡◌, ◌<◌, ℕ, List, [], ◌∷◌, ◌++◌, length, Option, Some, None, append-nil, refl, sym, ◌∙◌, ap, subst, arith, inl, inr}
 use Rattle.std.proofs.lemmas.Bool.{cases_eq}
 use Rattle.buffer_pool.specs.State.{PoolState}
 use Rattle.buffer_pool.specs.Kept.{Kept, HeldWithin}
-use Rattle.lt_world.specs.Disk.{Disk, without_file}
+use Rattle.lt_world.specs.Disk.{Disk, Table, without_file}
 use Rattle.lt_world.proofs.Disks.{released_own, released_other}
 use Rattle.server_model.specs.Held.{Held, kept_at}
-use Rattle.server_model.specs.Files.{file_of, Drops}
+use Rattle.server_model.specs.Files.{file_of, IsOpened, Backs, Drops}
+use Rattle.server_model.proofs.Changing.{IsAt, at_is, removes}
+use Rattle.server_model.proofs.FileSteps.{drops}
+use Rattle.server_model.proofs.Turning.{backs_step, kept_fits}
 use Rattle.server_model.proofs.Tables.{kept_at-first, kept_at-past}
 use Rattle.chunkqueue.specs.Store.{unused}
 use Rattle.connection.specs.Connection.{Connected}
-use Rattle.server_core.specs.Table.{helds, numbers_of, freed, all_freed}
+use Rattle.server_core.specs.Table.{helds, numbers_of, AllAbove, Rising, freed, all_freed}
 use Rattle.server_core.proofs.Buffered.{each_within, each_removed}
-use Rattle.server_core.proofs.Listed.{helds_append}
+use Rattle.server_core.proofs.Listed.{helds_append, rising_once, rising_remove}
 
 freed_drops : (file : Option ℕ) (a b : Disk) → Drops file a b → b ≡ freed file a
 freed_drops None a b is = is
@@ -22,7 +25,38 @@ all_freed_push : (table : List Held) (x : Held) (disk : Disk) → all_freed (tab
 all_freed_push [] x disk = refl
 all_freed_push (held ∷ table) x disk = ap (freed held.file) (all_freed_push table x disk)
 
+-- the last link is above those before it
+above_last : (n : ℕ) (table : List Held) (x : Held) → AllAbove n (table ++ x ∷ []) → n < x.link
+above_last n [] x above = above.0
+above_last n (held ∷ table) x above = above_last n table x above.1
+
+last_alone : (table : List Held) (x : Held) → Rising (table ++ x ∷ []) → kept_at x.link table ≡ None
+last_alone [] x rising = refl
+last_alone (held ∷ table) x rising = kept_at-past x.link held table (λ e. omega (arith, e, above_last held.link table x rising.0)) ∙ last_alone table x rising.1
+
 module _ (old rest : List Connected) (x : Connected) (is : old ≡ rest ++ x ∷ []) where
+  split : helds old ≡ helds rest ++ x.held ∷ []
+  split = ap helds is ∙ helds_append rest (x ∷ [])
+
+  last_at : Rising (helds old) → IsAt x.held.link (helds old) (helds rest) x.held []
+  last_at rising = record { split = split; link_is = refl; first = last_alone (helds rest) x.held (subst Rising split rising) }
+
+  last_kept : Rising (helds old) → kept_at x.held.link (helds old) ≡ Some x.held
+  last_kept rising = at_is x.held.link (helds old) (helds rest) x.held [] (last_at rising)
+
+  pub popped_rising : Rising (helds old) → Rising (helds rest)
+  popped_rising rising = subst Rising (append-nil (helds rest)) (rising_remove (helds rest) x.held [] (subst Rising split rising))
+
+  -- its file is open
+  pub popped_open : (opened : Table) → Rising (helds old) → Backs opened (helds old) → IsOpened opened x.held.file
+  popped_open opened rising backs = (kept_fits opened x.held.link (helds old) x.held (last_kept rising) backs).is_open
+
+  -- and those of the others stay so, once it is given back
+  pub popped_backs : (a b : Disk) → Rising (helds old) → Backs a.table (helds old) → Drops x.held.file a b → Backs b.table (helds rest)
+  popped_backs a b rising backs dropped =
+      let change = removes x.held.link (helds old) (helds rest) x.held [] (last_at rising) (helds rest) (sym (append-nil (helds rest))) (rising_once (helds old) rising) in
+      backs_step x.held.link (helds old) (helds rest) x.held None a b (last_kept rising) change backs (drops x.held.link a b x.held.file dropped) tt
+
   pub popped_disk : (a b first : Disk) → Drops x.held.file a b → all_freed (helds old) a ≡ first → all_freed (helds rest) b ≡ first
   popped_disk a b first dropped had =
       ap (all_freed (helds rest)) (freed_drops x.held.file a b dropped)

@@ -10,7 +10,7 @@ use Rattle.server_model.specs.Request.{Head}
 use Rattle.server_model.specs.Plan.{is_served}
 use Rattle.server_model.specs.Planning.{CallsFor, PlansError, PlansFile}
 use Rattle.server_model.proofs.Planned.{plans_find_failed, plans_missing, plans_directory, plans_not_allowed, plans_open_failed, plans_file, calls_find}
-use Rattle.server_core.specs.Planned.{Plans, OpensAs}
+use Rattle.server_core.specs.Planned.{Plans, PlansOpen, OpensAs}
 use Rattle.server_core.specs.declared.plan.Planned.{Planned}
 use Rattle.server_core.specs.declared.plan.Planned.TheVariants as planned
 
@@ -46,10 +46,16 @@ module _ (arrival : Option Arrival) (site : Site) (head : Head) (place : List �
       (subst (PlansError 500 site arrival owner.conn owner.request head before) (sym after_now) (plans_open_failed site owner.conn owner.request head owner refl refl before arrival bytes time (there (File bytes time) n) served))
   planned_file (planned.File file size) after bytes time n served o = opens_file file.0 size o.0 found after served is o.1
   planned_file planned.NoMemory after bytes time n served o =
-      subst (CallsFor site owner.conn owner.request None before) (sym (o ∙ is)) (calls_find site owner.conn owner.request head owner refl refl before false)
+      subst (CallsFor site owner.conn owner.request head None before) (sym (o ∙ is)) (calls_find site owner.conn owner.request head owner refl refl before false)
 
 pub planned_failed : (arrival : Option Arrival) (site : Site) (head : Head) (owner : Owner) (before found : Disk) → found ≡ asked call.Find owner true before → PlansError 500 site arrival owner.conn owner.request head before found
 planned_failed arrival site head owner before found is = subst (PlansError 500 site arrival owner.conn owner.request head before) (sym is) (plans_find_failed site owner.conn owner.request head owner refl refl before arrival)
+
+-- a file that is planned is open
+pub plans_open : (result : Planned) (site : Site) (arrival : Option Arrival) (client k : ℕ) (head : Head) (before after : Disk) → Plans result site arrival client k head before after → PlansOpen result after
+plans_open (planned.Error status) site arrival client k head before after plans = tt
+plans_open (planned.File file size) site arrival client k head before after plans = (plans.bytes, plans.opened)
+plans_open planned.NoMemory site arrival client k head before after plans = tt
 
 pub opens_at : (result : Planned) (owner : Owner) (a b : List ℕ) (before after : Disk) → a ≡ b → OpensAs result owner a before after → OpensAs result owner b before after
 opens_at result owner a b before after same o = subst (λ (p : List ℕ). OpensAs result owner p before after) same o

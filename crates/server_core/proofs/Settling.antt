@@ -18,12 +18,12 @@ use Rattle.server_model.specs.Reply.{error_bytes, content_head, body_for, final_
 use Rattle.server_model.specs.Held.{Stage, Asking, Held, Heading, arrival_of}
 use Rattle.server_model.specs.Steps.{number_of, advanced, looks, accepted, answered, holding, has_no_items, is_done}
 use Rattle.server_model.specs.Files.{IsOpened, AllFit, Fits, FileStep}
-use Rattle.server_model.specs.Planning.{CallsFor, PlansTo, PlansError, PlansFile}
+use Rattle.server_model.specs.Planning.{CallsFor, CallsWhole, PlansTo, PlansError, PlansFile}
 use Rattle.server_model.specs.Serves.{Matches}
 use Rattle.server_model.specs.Settling.{SettlesOn, SettlesTo}
 use Rattle.server_model.proofs.FileSteps.{same_files}
 use Rattle.server_model.proofs.Clients.{advanced_link, accepted_link}
-use Rattle.server_model.proofs.Planned.{memory_bytes, memory_fits, range_fits, file_reply, release_calls, release_plans}
+use Rattle.server_model.proofs.Planned.{memory_bytes, memory_fits, range_fits, file_reply, release_calls, release_whole, release_plans}
 use Rattle.server_model.proofs.Standing.{matches_stands}
 use Rattle.server_model.proofs.SettleSteps.{settle_rests, settle_finishes, settle_yields, settle_more, advance_then, accepted_fits, accept_then, answer_by, refuse_by, decline_by, plan_yields}
 use Rattle.connection.specs.Connection.{head_at, EndsInFile}
@@ -98,23 +98,24 @@ module _ (site : Site) (held : Held) (tells : Type 0) (before after : Disk) (hea
 
   -- it is answered as is planned
   answers_on : (items : List Item) (file : Option ℕ) (new : Held) → new ≡ answered held items file last → has_no_items items ≡ false
-      → (tells → CallsFor site held.link (number_of held.stage) file before after)
+      → (tells → CallsFor site held.link (number_of held.stage) head file before after)
+      → (tells → CallsWhole site held.link (number_of held.stage) head before after)
       → (tells → (o : Outcome) × (is_last_request o.settings.request_limit (number_of held.stage) head ≡ last) × PlansTo o site (Some (arrival_of held)) held.link (number_of held.stage) head before after × (bytes_of after.table items ≡ final_bytes head last o))
       → (tells → IsOpened after.table file) → (tells → AllFit after.table file items) → SettlesOn site held new tells before after
-  answers_on items file new is some calls plans opened fit = gives_on site held tells before after none here items file last new is some (λ f. (calls f).files) opened fit
+  answers_on items file new is some calls whole plans opened fit = gives_on site held tells before after none here items file last new is some (λ f. (calls f).files) opened fit
       (λ f past m.
       let p = plans f in
       subst (λ (l : Bool). Matches after.table (world_of site after held.link past) (answered held items file l) (ours past)) p.1
-      (answer_by site held before after past head content file asking p.0 items (calls f) p.2 (p.3 ∙ ap (λ (l : Bool). final_bytes head l p.0) (sym p.1)) (here f) m))
+      (answer_by site held before after past head content file asking p.0 items (calls f) (whole f) p.2 (p.3 ∙ ap (λ (l : Bool). final_bytes head l p.0) (sym p.1)) (here f) m))
 
   gone : (file : Option ℕ) (new : Held) (e : Ending) → (e ≡ ending.NoMemory) × (new ≡ holding held file)
-      → (tells → CallsFor site held.link (number_of held.stage) file before after) → SettlesTo true site held new (Some e) tells before after
+      → (tells → CallsFor site held.link (number_of held.stage) head file before after) → SettlesTo true site held new (Some e) tells before after
   gone file new e is calls = subst (λ (x : Ending). SettlesTo true site held new (Some x) tells before after) (sym is.0)
       (plan_yields site held new tells before after head content file asking (ap (λ (h : Held). h.link) is.1) none (ap (λ (h : Held). h.file) is.1) calls)
 
   pub settles_error : (status : ℕ) (new : Held) (result : Option Ending) → GivenBy result held new (map Byte (error_at settings.tag head.minor status last (is_head head.method))) None last
       → (tells → PlansError status site (Some (arrival_of held)) held.link (number_of held.stage) head before after) → SettlesTo true site held new result tells before after
-  settles_error status new None is plans = answers_on (map Byte (error_at settings.tag head.minor status last (is_head head.method))) None new is (error_some settings.tag head.minor status last (is_head head.method)) (λ f. (plans f).calls)
+  settles_error status new None is plans = answers_on (map Byte (error_at settings.tag head.minor status last (is_head head.method))) None new is (error_some settings.tag head.minor status last (is_head head.method)) (λ f. (plans f).calls) (λ f. (plans f).whole)
       (λ f. (error_outcome settings status, refl, (plans f).plans, memory_bytes after.table (error_at settings.tag head.minor status last (is_head head.method))))
       (λ f. tt) (λ f. all_memory after.table None (error_at settings.tag head.minor status last (is_head head.method)))
   settles_error status new (Some e) is plans = gone None new e is (λ f. (plans f).calls)
@@ -128,7 +129,7 @@ module _ (site : Site) (held : Held) (tells : Type 0) (before after : Disk) (hea
 
   pub settles_file : (file size : ℕ) (new : Held) (result : Option Ending) → is_head head.method ≡ false → GivenBy result held new (map Byte (file_at settings.tag head.minor size last) ++ range file 0 size) (Some file) last
       → (tells → PlansFile file size site (Some (arrival_of held)) held.link (number_of held.stage) head before after) → SettlesTo true site held new result tells before after
-  settles_file file size new None get is plans = answers_on (map Byte (file_at settings.tag head.minor size last) ++ range file 0 size) (Some file) new is (some_append (map Byte (file_at settings.tag head.minor size last)) (range file 0 size) (head_some settings.tag head.minor size last)) (λ f. (plans f).calls)
+  settles_file file size new None get is plans = answers_on (map Byte (file_at settings.tag head.minor size last) ++ range file 0 size) (Some file) new is (some_append (map Byte (file_at settings.tag head.minor size last)) (range file 0 size) (head_some settings.tag head.minor size last)) (λ f. (plans f).calls) (λ f. (plans f).whole)
       (λ f. (file_outcome settings (plans f).bytes, refl, (plans f).plans, file_is file size (plans f) get))
       (λ f. ((plans f).bytes, (plans f).opened))
       (λ f. let p = plans f in memory_fits after.table (Some file) (file_at settings.tag head.minor size last) (range file 0 size) (range_fits after.table file p.bytes p.opened 0 size (omega (arith, p.has_size))))
@@ -149,6 +150,7 @@ module _ (site : Site) (held : Held) (tells : Type 0) (before after : Disk) (hea
       → (tells → PlansFile file size site (Some (arrival_of held)) held.link (number_of held.stage) head before between) → (tells → after ≡ released file between) → SettlesTo true site held new result tells before after
   settles_bare file size between new None none_is bare nothing is plans same = answers_on (map Byte (file_at settings.tag head.minor size last)) None new is (head_some settings.tag head.minor size last)
       (λ f. release_calls site held.link (number_of held.stage) head file before between after (same f) (plans f).calls)
+      (λ f. release_whole site held.link (number_of held.stage) head file before between after (same f) (plans f).whole)
       (λ f. let p = plans f in (
         file_outcome settings p.bytes,
         refl,

@@ -1,21 +1,20 @@
 -- The steps of the code, by those of the model.
-use Rattle.std.proofs.Common.{◌≡◌, ◌≢◌, ℕ, zero, suc, ◌≤◌, ◌<◌, List, [], ◌∷◌, length, take, drop, Bool, true, false, nat_lt, Option, Some, None, if◌then◌else◌, refl, sym, ◌∙◌, ap, subst, arith}
+use Rattle.std.proofs.Common.{◌≡◌, ◌≢◌, ℕ, zero, suc, ◌+◌, ◌≤◌, ◌<◌, List, [], ◌∷◌, length, take, drop, Bool, true, false, nat_lt, Option, Some, None, if◌then◌else◌, refl, sym, ◌∙◌, ap, subst, arith}
 use Rattle.std.proofs.lemmas.Bool.Decides.{nat_tests}
 use Rattle.lt_world.specs.declared.net.Ending.{Ending}
 use Rattle.lt_world.specs.declared.net.Ending.TheVariants as ending
-use Rattle.lt_world.specs.declared.net.Owner.{Owner}
 use Rattle.lt_world.specs.Causes.{Rose}
-use Rattle.lt_world.specs.Disk.{Disk, Table}
+use Rattle.lt_world.specs.Disk.{Disk, Table, Reads}
 use Rattle.lt_world.specs.Trace.{Act, Entry, Writing, Readable, Writable, Wrote, NotYet, Failed, said}
 use Rattle.chunkqueue.specs.Items.{Item, Byte, FileByte, AllLie, Leads, Shows}
 use Rattle.server_model.specs.Site.{Site}
 use Rattle.server_model.specs.Deeds.{Ours, told}
 use Rattle.server_model.specs.Held.{Stage, Awaiting, Heading, Taking, Asking, Answering, Held}
 use Rattle.server_model.specs.Steps.{number_of, took, wrote, staged, without_file, looks, has_no_items, room_of, wants_read}
-use Rattle.server_model.specs.Files.{AllFit, Fits, Drops}
+use Rattle.server_model.specs.Files.{IsOpened, AllFit, Fits, Drops}
 use Rattle.server_model.specs.Serves.{IsWaitingAt, Stands}
 use Rattle.server_model.specs.Due.{DueRead, DueWrite, offer_limit}
-use Rattle.server_model.specs.Turns.{Seen, ReadFailed, NoReadFailed, DueOn, GoesBy}
+use Rattle.server_model.specs.Turns.{Seen, ReadFailed, ReadsNone, ReadsOne, DueOn, GoesBy}
 use Rattle.server_model.specs.Settling.{SettlesTo}
 use Rattle.server_model.proofs.FileSteps.{drop_fits}
 use Rattle.server_model.proofs.SettleSteps.{settle_more}
@@ -62,21 +61,25 @@ fit_lie table file (Byte b ∷ items) fit = fit_lie table file items fit
 fit_lie table file (FileByte from at ∷ items) fit = (fit.1, fit_lie table file items fit.2)
 
 -- a read of the file failed, as is seen later too
-pub fault_later : (client number : ℕ) (before later : Seen) (faults : ℕ) (failed_read : Option Owner) → Rose before.faults faults → failed_read ≡ Some (record { conn = client; request = number })
-    → faults ≤ later.faults → later.failed_read ≡ failed_read → ReadFailed client number before later
-fault_later client number before later faults failed_read rose owner more same = record { rose = omega (arith, rose, more); owner = record { conn = client; request = number }; is = same ∙ owner; conn = refl; request = refl }
+pub fault_later : (client number : ℕ) (before later : Seen) (faults : ℕ) (reads : Reads) → Rose before.faults faults → reads.failed ≡ Some (record { conn = client; request = number }) → reads.made ≤ before.reads.made + 1
+    → faults ≤ later.faults → later.reads ≡ reads → ReadFailed client number before later
+fault_later client number before later faults reads rose owner once more same = record { rose = omega (arith, rose, more); owner = record { conn = client; request = number }; is = ap (λ (r : Reads). r.failed) same ∙ owner; conn = refl; request = refl; once = omega (arith, once, ap (λ (r : Reads). r.made) same) }
+
+-- one piece was read at most, as is seen later too
+pub reads_one : (before later : Seen) (reads : Reads) → reads.failed ≡ before.reads.failed → reads.made ≤ before.reads.made + 1 → later.reads ≡ reads → ReadsOne before later
+reads_one before later reads failed once same = record { failed = ap (λ (r : Reads). r.failed) same ∙ failed; once = omega (arith, once, ap (λ (r : Reads). r.made) same) }
 
 -- a read is what is due for a link that is ready so, since it touches no file, and so is a write
 module _ (r : Ready) where
-  pub read_due : r ≡ ready.Reading → (link : ℕ) (before later : Seen) (site : Site) (held new : Held) (net files : Type 0) (disk after : Disk) (old now : List Entry) (result : Option Ending) → (files → NoReadFailed before later)
+  pub read_due : r ≡ ready.Reading → (link : ℕ) (before later : Seen) (site : Site) (held new : Held) (net files : Type 0) (disk after : Disk) (old now : List Entry) (result : Option Ending) → ReadsNone before later
       → GoesBy Stands DueRead site held new result net files disk after old now → GoesBy Stands (DueOn (event_of r) before later link) site held new result net files disk after old now
   read_due reading link before later site held new net files disk after old now result sound goes = subst (λ (t : Ready). GoesBy Stands (DueOn (event_of t) before later link) site held new result net files disk after old now) (sym reading)
-      (same_goes Stands DueRead (DueOn Readable before later link) site held new net files disk disk after old now (λ f was world past all due open_now. (sound f, due)) (λ f. refl) result goes)
+      (same_goes Stands DueRead (DueOn Readable before later link) site held new net files disk disk after old now (λ f was world past all due open_now. (sound, due)) (λ f. refl) result goes)
 
   pub write_due : r ≡ ready.Writing → (link : ℕ) (before later : Seen) (site : Site) (held new : Held) (net files : Type 0) (disk after : Disk) (old now : List Entry) (result : Option Ending)
-      → GoesBy Stands (DueWrite (NoReadFailed before later) (FailsFor link before later)) site held new result net files disk after old now → GoesBy Stands (DueOn (event_of r) before later link) site held new result net files disk after old now
+      → GoesBy Stands (DueWrite (ReadsOne before later) (FailsFor link before later)) site held new result net files disk after old now → GoesBy Stands (DueOn (event_of r) before later link) site held new result net files disk after old now
   write_due writing link before later site held new net files disk after old now result goes = subst (λ (t : Ready). GoesBy Stands (DueOn (event_of t) before later link) site held new result net files disk after old now) (sym writing)
-      (same_goes Stands (DueWrite (NoReadFailed before later) (FailsFor link before later)) (DueOn Writable before later link) site held new net files disk disk after old now (λ f was world past all due open_now. due) (λ f. refl) result goes)
+      (same_goes Stands (DueWrite (ReadsOne before later) (FailsFor link before later)) (DueOn Writable before later link) site held new net files disk disk after old now (λ f was world past all due open_now. due) (λ f. refl) result goes)
 
 -- a fault of the file
 pub faults_goes : (sound : Type 0) (failed : ℕ → Type 0) (site : Site) (held new : Held) (net files : Type 0) (before after : Disk) (old : List Entry) → 0 < length held.owed → (files → failed (number_of held.stage)) → new ≡ held → (files → after ≡ before)
@@ -84,6 +87,17 @@ pub faults_goes : (sound : Type 0) (failed : ℕ → Type 0) (site : Site) (held
 faults_goes sound failed site held new net files before after old some fault same disk =
     same_goes Stands (DueWrite sound failed) (DueWrite sound failed) site held new net files before after after old old (λ f was is past all due. due) (λ f. sym (disk f)) (Some ending.FileFault)
     (write_faults sound failed site held net files after old new some fault (ap (λ (h : Held). h.link) same) (ap (λ (h : Held). h.file) same))
+
+-- a file that is given back is open
+pub open_as : (table : Table) (file kept : Option ℕ) → file ≡ kept → IsOpened table kept → IsOpened table file
+open_as table file kept is here = subst (IsOpened table) (sym is) here
+
+pub open_done : (table : Table) (t : Bool) (file kept : Option ℕ) → file ≡ (if t then kept else None) → IsOpened table kept → IsOpened table file
+open_done table true file kept is here = open_as table file kept is here
+open_done table false file kept is here = open_as table file None is tt
+
+pub open_staged : (before after : Table) (file kept : Option ℕ) → after ≡ before → file ≡ kept → IsOpened before kept → IsOpened after file
+open_staged before after file kept same is here = subst (λ (t : Table). IsOpened t file) (sym same) (open_as before file kept is here)
 
 -- what was staged keeps the stage, and what was taken too
 module _ (held mid : Held) (is : mid ≡ staged held mid.staged) (n : ℕ) where

@@ -5,14 +5,14 @@ use Rattle.buffer_pool.specs.State.{PoolState}
 use Rattle.buffer_pool.specs.Kept.{Kept, HeldWithin}
 use Rattle.lt_world.specs.declared.net.Address.{Address}
 use Rattle.lt_world.specs.declared.net.Ending.{Ending}
-use Rattle.lt_world.specs.Disk.{Disk}
+use Rattle.lt_world.specs.Disk.{Disk, Table}
 use Rattle.lt_world.specs.Trace.{Act, Entry, Close, said}
 use Rattle.server_model.specs.Site.{Site}
 use Rattle.server_model.specs.World.{World}
 use Rattle.server_model.specs.Deeds.{Deed, Ours, told}
 use Rattle.server_model.specs.Held.{Held, IsPlace, kept_at}
 use Rattle.server_model.specs.Steps.{arrived}
-use Rattle.server_model.specs.Files.{Backs, Drops, IsTable}
+use Rattle.server_model.specs.Files.{IsOpened, Backs, Drops, IsTable}
 use Rattle.server_model.specs.Serves.{Stands}
 use Rattle.server_model.specs.Turns.{Seen, DueOn, StepsBy, TurnsOn}
 use Rattle.server_model.proofs.Changing.{Changes, table_on}
@@ -84,6 +84,9 @@ lent_at conns i client conn same at = subst (λ (k : Connected). k ≡ get_or co
 -- the client that is to be closed, taken out of the list
 pub taken_is : (conns : List Connected) (i : ℕ) (closing taken : Connected) → i < length conns → taken ≡ get_or (set conns i closing) i taken → taken ≡ closing
 taken_is conns i closing taken below is = is ∙ get_or-set_same conns i closing taken below
+
+pub taken_open : (opened : Table) (taken closing : Connected) → taken ≡ closing → IsOpened opened closing.held.file → IsOpened opened taken.held.file
+taken_open opened taken closing is here = subst (λ (k : Connected). IsOpened opened k.held.file) (sym is) here
 
 pub within_as : (store : PoolState) (taken closing : Connected) → taken ≡ closing → HeldWithin store (length closing.numbers) → HeldWithin store (length taken.numbers)
 within_as store taken closing is within = subst (λ (k : Connected). HeldWithin store (length k.numbers)) (sym is) within

@@ -2,8 +2,7 @@
 use Rattle.std.specs.Prelude.{◌≡◌, ℕ, drop, true, false, Bool, List, Option, Some, None, if◌then◌else◌}
 use Rattle.lt_world.specs.declared.net.Ending.{Ending}
 use Rattle.lt_world.specs.declared.net.Ending.TheVariants as ending
-use Rattle.lt_world.specs.declared.net.Owner.{Owner}
-use Rattle.lt_world.specs.Disk.{Disk}
+use Rattle.lt_world.specs.Disk.{Disk, Reads}
 use Rattle.lt_world.specs.Trace.{Act, Readable, Writable}
 use Rattle.chunkqueue.specs.Items.{Item}
 use Rattle.server_model.specs.Held.{Stage, Awaiting, Heading, Taking, Asking, Answering, Held}
@@ -57,8 +56,8 @@ GivenBy (Some e) old new items file last = (e ≡ ending.NoMemory) × (new ≡ h
 abbrev pub done_file : Held → ℕ → Option ℕ
 done_file held n = if has_no_items (drop n held.owed) then held.file else None
 
-abbrev pub seen_as : Disk → ℕ → Option Owner → Seen
-seen_as disk faults failed_read = record { disk = disk; faults = faults; failed_read = failed_read }
+abbrev pub seen_as : Disk → ℕ → Reads → Seen
+seen_as disk faults reads = record { disk = disk; faults = faults; reads = reads }
 
 -- a read failed for request k of a client
 abbrev pub FailsFor : ℕ → Seen → Seen → ℕ → Type 0

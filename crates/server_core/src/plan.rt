@@ -32,7 +32,7 @@ pub(crate) fn plan<F: Files>(
 ) -> Planned
     ensures plans { F.tells → Plans result (served site.now) (Some (arrival_of conn.now.held)) owner.conn owner.request request.now (F.disk files.old) (F.disk files.new) }
     ensures within { PlansWithin result }
-    ensures failed_read { F.tells → F.failed_read files.new ≡ F.failed_read files.old }
+    ensures reads { F.reads files.new ≡ F.reads files.old }
     ensures later { F.later files.old files.new }
 {
     let _ = conn;
@@ -57,7 +57,7 @@ fn open<F: Files>(place: &[u8], files: &mut F, owner: Owner) -> Planned
     requires { F.tells → IsFileAt place.now (F.disk files.old).tree }
     ensures opens { F.tells → OpensAs result owner place.now (F.disk files.old) (F.disk files.new) }
     ensures within { PlansWithin result }
-    ensures failed_read { F.tells → F.failed_read files.new ≡ F.failed_read files.old }
+    ensures reads { F.reads files.new ≡ F.reads files.old }
     ensures later { F.later files.old files.new }
 {
     match files.open(owner, place) {

@@ -9,7 +9,7 @@ ghost use Rattle.server_model.specs.Files.{IsTable, Backs};
 ghost use Rattle.server_model.specs.Serves.{Serves};
 ghost use Rattle.server_core.specs.Places.{ArePlaces};
 ghost use Rattle.server_core.specs.Steps.{seen_as};
-ghost use Rattle.server_core.specs.Table.{helds, held_count, numbers_of, all_freed};
+ghost use Rattle.server_core.specs.Table.{helds, held_count, numbers_of, Rising, all_freed};
 ghost use Rattle.server_core.specs.Offers.{OffersIn, GainsWrites};
 ghost use Rattle.server_core.specs.Within.{serving_at, joined, IsEachBufferOnce};
 ghost use Rattle.server_core.specs.Turns.{Turned, OnRest, KindFits, Uses};
@@ -107,8 +107,8 @@ impl Server {
         // The server stands for what the net and the files tell, and what was due for the event was done.
         ensures serves { N.tells → F.tells → Serves (F.disk files.old) (serving_at self.old) (N.trace net.old) →
             Serves (F.disk files.new) (serving_at self.new) (N.trace net.new) ×
-            Turned result self.old.site (seen_as (F.disk files.old) (F.faults files.old) (F.failed_read files.old))
-            (seen_as (F.disk files.new) (F.faults files.new) (F.failed_read files.new)) (N.trace net.old) (N.trace net.new) }
+            Turned result self.old.site (seen_as (F.disk files.old) (F.faults files.old) (F.reads files.old))
+            (seen_as (F.disk files.new) (F.faults files.new) (F.reads files.new)) (N.trace net.old) (N.trace net.new) }
         ensures site { self.new.site ≡ self.old.site }
 
         // Bodies move: few bytes are put into buffers or moved in them, whatever their size.
@@ -198,12 +198,13 @@ impl Server {
 
     /// Ends the server: it gives every file back that it keeps. No client is told.
     pub fn close<F: Files>(self, files: &mut F)
+        requires backs { F.tells → Backs (F.disk files.old).table self.table }
         ensures disk { F.tells → F.disk files.new ≡ all_freed self.table (F.disk files.old) }
 
         // Where it serves, no file is open then.
         ensures none_open { F.tells → (trace : List Entry) → Serves (F.disk files.old) (serving_at self) trace → (file : ℕ) → (F.disk files.new).table file ≡ None }
         ensures faults { F.faults files.old ≤ F.faults files.new }
-        ensures failed_read { F.tells → F.failed_read files.new ≡ F.failed_read files.old }
+        ensures reads { F.reads files.new ≡ F.reads files.old }
         ensures later { F.later files.old files.new }
     {
         let Server {
@@ -271,12 +272,14 @@ fn queued(clients: &[Client]) -> u64
 
 // Gives back what the clients keep, and leaves none.
 fn give_back<F: Files>(clients: &mut Vec<Client>, store: &mut Store, files: &mut F)
-    requires { Kept unused [] store.old (numbers_of clients.old.items) }
+    requires each { Kept unused [] store.old (numbers_of clients.old.items) }
+    requires rising { Rising (helds clients.old.items) }
+    requires backs { F.tells → Backs (F.disk files.old).table (helds clients.old.items) }
     // Every buffer is spare then.
     ensures spare { Kept unused [] store.new [] }
     ensures empty { clients.new.items ≡ [] }
     ensures disk { F.tells → F.disk files.new ≡ all_freed (helds clients.old.items) (F.disk files.old) }
-    ensures failed_read { F.tells → F.failed_read files.new ≡ F.failed_read files.old }
+    ensures reads { F.reads files.new ≡ F.reads files.old }
     ensures later { F.later files.old files.new }
 {
     while let Some(client) = clients.pop() {

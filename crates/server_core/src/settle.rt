@@ -1,7 +1,7 @@
 //! What follows once bytes came or were taken: a request that is there by then is answered.
 ghost use Rattle.std.specs.Prelude.{◌≡◌, ◌≢◌, ℕ, ◌+◌, ◌-◌, ◌*◌, ◌≤◌, ◌<◌, ◌^◌, ◌++◌, List, [], length, map, Some, None, true, false};
 ghost use Rattle.buffer_pool.specs.Kept.{Kept, HeldWithin};
-ghost use Rattle.lt_world.specs.Disk.{Disk};
+ghost use Rattle.lt_world.specs.Disk.{Disk, IsOpenAt};
 ghost use Rattle.chunkqueue.specs.Items.{Byte, items_of, staged_of, count_of};
 ghost use Rattle.server_model.specs.Request.{Head, Complete};
 ghost use Rattle.server_model.specs.Held.{Asking, arrival_of};
@@ -16,7 +16,7 @@ ghost use Rattle.connection.specs.Connection.{file_number, IsBodyOf};
 ghost use Rattle.connection.specs.Stages.{stage_of, is_asking};
 ghost use Rattle.connection.specs.declared.stage.Stage.TheVariants as next;
 ghost use Rattle.server_core.specs.Form.{form_of};
-ghost use Rattle.server_core.specs.Planned.{Plans, PlansWithin};
+ghost use Rattle.server_core.specs.Planned.{Plans, PlansOpen, PlansWithin};
 ghost use Rattle.server_core.specs.Served.{served};
 ghost use Rattle.server_core.specs.Steps.{is_idle, IsFree, IsAdvanced, WaitsOn, GivenBy};
 
@@ -53,7 +53,7 @@ pub(crate) fn settle<F: Files>(
     ensures waits { WaitsOn result conn.new.held }
     ensures filled { store.new.filled ≤ store.old.filled + SETTLE_FILL }
     ensures kept { Kept store.old conn.old.numbers store.new conn.new.numbers }
-    ensures failed_read { F.tells → F.failed_read files.new ≡ F.failed_read files.old }
+    ensures reads { F.reads files.new ≡ F.reads files.old }
     ensures later { F.later files.old files.new }
 {
     let Ok(stage) = conn.advance(store) else {
@@ -81,7 +81,7 @@ fn read_body<F: Files>(
     ensures waits { WaitsOn result conn.new.held }
     ensures filled { store.new.filled ≤ store.old.filled + length conn.old.held.input + 25 + REPLY_FILL }
     ensures kept { Kept store.old conn.old.numbers store.new conn.new.numbers }
-    ensures failed_read { F.tells → F.failed_read files.new ≡ F.failed_read files.old }
+    ensures reads { F.reads files.new ≡ F.reads files.old }
     ensures later { F.later files.old files.new }
 {
     let settings = settings_for(site, conn);
@@ -113,7 +113,7 @@ fn go_on<F: Files>(
     ensures waits { WaitsOn result conn.new.held }
     ensures filled { store.new.filled ≤ store.old.filled + REPLY_FILL }
     ensures kept { Kept store.old conn.old.numbers store.new conn.new.numbers }
-    ensures failed_read { F.tells → F.failed_read files.new ≡ F.failed_read files.old }
+    ensures reads { F.reads files.new ≡ F.reads files.old }
     ensures later { F.later files.old files.new }
 {
     match stage {
@@ -147,7 +147,7 @@ fn respond<F: Files>(
     ensures waits { WaitsOn result conn.new.held }
     ensures filled { store.new.filled ≤ store.old.filled + REPLY_FILL }
     ensures kept { Kept store.old conn.old.numbers store.new conn.new.numbers }
-    ensures failed_read { F.tells → F.failed_read files.new ≡ F.failed_read files.old }
+    ensures reads { F.reads files.new ≡ F.reads files.old }
     ensures later { F.later files.old files.new }
 {
     let owner = conn.owner();
@@ -175,6 +175,7 @@ fn serve<F: Files>(
     requires file { conn.old.held.file ≡ None }
     requires number { form.last ≡ false → number_of conn.old.held.stage < 2 ^ 32 - 1 }
     requires within { PlansWithin planned }
+    requires opened { F.tells → PlansOpen planned (F.disk files.old) }
     ensures settles { (before : Disk) (head : Head) (content : List ℕ) → conn.old.held.stage ≡ Asking (number_of conn.old.held.stage) (Complete head content) → form ≡ form_of (settings_at (served site.now) (Some (arrival_of conn.old.held)) (Some head)).request_limit (number_of conn.old.held.stage) head → tag.now ≡ (settings_at (served site.now) (Some (arrival_of conn.old.held)) (Some head)).tag →
         (F.tells → Fits before.table conn.old.held) →
         (F.tells → Plans planned (served site.now) (Some (arrival_of conn.old.held)) conn.old.held.link (number_of conn.old.held.stage) head before (F.disk files.old)) →
@@ -183,7 +184,7 @@ fn serve<F: Files>(
     ensures waits { WaitsOn result conn.new.held }
     ensures filled { store.new.filled ≤ store.old.filled + REPLY_FILL }
     ensures kept { Kept store.old conn.old.numbers store.new conn.new.numbers }
-    ensures failed_read { F.tells → F.failed_read files.new ≡ F.failed_read files.old }
+    ensures reads { F.reads files.new ≡ F.reads files.old }
     ensures later { F.later files.old files.new }
 {
     match planned {
@@ -234,6 +235,7 @@ fn send_file<F: Files>(
     requires file { conn.old.held.file ≡ None }
     requires number { form.last ≡ false → number_of conn.old.held.stage < 2 ^ 32 - 1 }
     requires size { size < 2 ^ 62 }
+    requires opened { F.tells → IsOpenAt file.0 (F.disk files.old) }
     ensures settles { (before : Disk) (head : Head) (content : List ℕ) → conn.old.held.stage ≡ Asking (number_of conn.old.held.stage) (Complete head content) → form ≡ form_of (settings_at (served site.now) (Some (arrival_of conn.old.held)) (Some head)).request_limit (number_of conn.old.held.stage) head → tag.now ≡ (settings_at (served site.now) (Some (arrival_of conn.old.held)) (Some head)).tag →
         (F.tells → Fits before.table conn.old.held) →
         (F.tells → PlansFile file.0 size (served site.now) (Some (arrival_of conn.old.held)) conn.old.held.link (number_of conn.old.held.stage) head before (F.disk files.old)) →
@@ -242,7 +244,7 @@ fn send_file<F: Files>(
     ensures waits { WaitsOn result conn.new.held }
     ensures filled { store.new.filled ≤ store.old.filled + REPLY_FILL }
     ensures kept { Kept store.old conn.old.numbers store.new conn.new.numbers }
-    ensures failed_read { F.tells → F.failed_read files.new ≡ F.failed_read files.old }
+    ensures reads { F.reads files.new ≡ F.reads files.old }
     ensures later { F.later files.old files.new }
 {
     let Ok(head) = site.replies.file_head(site.alloc, tag, form, size) else {

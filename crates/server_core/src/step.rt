@@ -2,10 +2,10 @@
 ghost use Rattle.std.specs.Prelude.{◌≡◌, ◌+◌, ◌≤◌, ◌<◌, [], ◌∷◌, length, true};
 ghost use Rattle.buffer_pool.specs.Kept.{Kept, HeldWithin};
 ghost use Rattle.lt_world.specs.Trace.{Close, said};
-ghost use Rattle.server_model.specs.Files.{Drops, Fits};
+ghost use Rattle.server_model.specs.Files.{IsOpened, Drops, Fits};
 ghost use Rattle.server_model.specs.Serves.{Stands};
 ghost use Rattle.server_model.specs.Due.{DueRead, DueWrite};
-ghost use Rattle.server_model.specs.Turns.{Seen, NoReadFailed, DueOn, GoesBy};
+ghost use Rattle.server_model.specs.Turns.{Seen, ReadsOne, DueOn, GoesBy};
 ghost use Rattle.server_model.specs.Steps.{room_of, wants_read, wrote};
 ghost use Rattle.server_core.specs.Offers.{OffersOn, GainsWrites};
 ghost use Rattle.server_core.specs.Served.{served};
@@ -23,11 +23,12 @@ pub(crate) const TURN_FILL: usize = 143_385;
 
 /// Ends a connection, and gives the file back that it keeps.
 pub(crate) fn release<F: Files>(conn: Conn, store: &mut Store, files: &mut F)
-    requires { HeldWithin store.old (length conn.numbers) }
+    requires counted { HeldWithin store.old (length conn.numbers) }
+    requires open { F.tells → IsOpened (F.disk files.old).table conn.held.file }
     ensures drops { F.tells → Drops conn.held.file (F.disk files.old) (F.disk files.new) }
     ensures filled { store.new.filled ≡ store.old.filled }
     ensures kept { Kept store.old conn.numbers store.new [] }
-    ensures failed_read { F.tells → F.failed_read files.new ≡ F.failed_read files.old }
+    ensures reads { F.reads files.new ≡ F.reads files.old }
     ensures later { F.later files.old files.new }
 {
     match conn.close(store) {
@@ -47,6 +48,7 @@ pub(crate) fn finish<N: Net, F: Files>(
     requires calls { 0 < N.calls net.old }
     requires known { conn.held.link < N.links net.old }
     requires counted { HeldWithin store.old (length conn.numbers) }
+    requires open { F.tells → IsOpened (F.disk files.old).table conn.held.file }
     ensures trace { N.tells → N.trace net.new ≡ said conn.held.link (Close ending ∷ []) (N.trace net.old) }
     ensures drops { F.tells → Drops conn.held.file (F.disk files.old) (F.disk files.new) }
     ensures filled { store.new.filled ≡ store.old.filled }
@@ -54,7 +56,7 @@ pub(crate) fn finish<N: Net, F: Files>(
     ensures links { N.links net.new ≡ N.links net.old }
     ensures last { N.last net.new ≡ N.last net.old }
     ensures net_later { N.later net.old net.new }
-    ensures failed_read { F.tells → F.failed_read files.new ≡ F.failed_read files.old }
+    ensures reads { F.reads files.new ≡ F.reads files.old }
     ensures later { F.later files.old files.new }
 {
     net.close(conn.link(), ending);
@@ -85,8 +87,8 @@ pub(crate) fn step_for<N: Net, F: Files>(
     requires resting { IsResting conn.old.held }
     requires fits { F.tells → Fits (F.disk files.old).table conn.old.held }
     // What is seen later tells of a failed read too.
-    ensures goes { (later : Seen) → F.faults files.new ≤ later.faults → (F.tells → later.failed_read ≡ F.failed_read files.new) →
-        GoesBy Stands (DueOn (event_of ready) (seen_as (F.disk files.old) (F.faults files.old) (F.failed_read files.old)) later conn.old.held.link)
+    ensures goes { (later : Seen) → F.faults files.new ≤ later.faults → later.reads ≡ F.reads files.new →
+        GoesBy Stands (DueOn (event_of ready) (seen_as (F.disk files.old) (F.faults files.old) (F.reads files.old)) later conn.old.held.link)
         (served site.now) conn.old.held conn.new.held result N.tells F.tells (F.disk files.old) (F.disk files.new) (N.trace net.old) (N.trace net.new) }
     ensures link { conn.new.held.link ≡ conn.old.held.link }
     ensures waits { WaitsOn result conn.new.held }
@@ -131,7 +133,7 @@ fn read_for<N: Net, F: Files>(
     ensures links { N.links net.new ≡ N.links net.old }
     ensures last { N.last net.new ≡ N.last net.old }
     ensures net_later { N.later net.old net.new }
-    ensures failed_read { F.tells → F.failed_read files.new ≡ F.failed_read files.old }
+    ensures reads { F.reads files.new ≡ F.reads files.old }
     ensures later { F.later files.old files.new }
 {
     let room = conn.room();
@@ -178,7 +180,7 @@ fn receive<N: Net, F: Files>(
     ensures links { N.links net.new ≡ N.links net.old }
     ensures last { N.last net.new ≡ N.last net.old }
     ensures net_later { N.later net.old net.new }
-    ensures failed_read { F.tells → F.failed_read files.new ≡ F.failed_read files.old }
+    ensures reads { F.reads files.new ≡ F.reads files.old }
     ensures later { F.later files.old files.new }
 {
     match net.read(conn.link(), buf) {
@@ -212,8 +214,8 @@ fn write_for<N: Net, F: Files>(
     requires resting { IsResting conn.old.held }
     requires fits { F.tells → Fits (F.disk files.old).table conn.old.held }
     // What is seen later tells of a failed read too.
-    ensures goes { (later : Seen) → F.faults files.new ≤ later.faults → (F.tells → later.failed_read ≡ F.failed_read files.new) →
-        GoesBy Stands (DueWrite (NoReadFailed (seen_as (F.disk files.old) (F.faults files.old) (F.failed_read files.old)) later) (FailsFor conn.old.held.link (seen_as (F.disk files.old) (F.faults files.old) (F.failed_read files.old)) later))
+    ensures goes { (later : Seen) → F.faults files.new ≤ later.faults → later.reads ≡ F.reads files.new →
+        GoesBy Stands (DueWrite (ReadsOne (seen_as (F.disk files.old) (F.faults files.old) (F.reads files.old)) later) (FailsFor conn.old.held.link (seen_as (F.disk files.old) (F.faults files.old) (F.reads files.old)) later))
         (served site.now) conn.old.held conn.new.held result N.tells F.tells (F.disk files.old) (F.disk files.new) (N.trace net.old) (N.trace net.new) }
     ensures link { conn.new.held.link ≡ conn.old.held.link }
     ensures waits { WaitsOn result conn.new.held }
@@ -246,11 +248,12 @@ fn write_for<N: Net, F: Files>(
 fn wrote<F: Files>(conn: &mut Conn, store: &mut Store, files: &mut F, n: usize)
     requires counted { HeldWithin store.old (length conn.old.numbers) }
     requires within { n ≤ length conn.old.front }
+    requires open { F.tells → IsOpened (F.disk files.old).table conn.old.held.file }
     ensures held { conn.new.held ≡ wrote conn.old.held n }
     ensures drops { F.tells → Drops (done_file conn.old.held n) (F.disk files.old) (F.disk files.new) }
     ensures filled { store.new.filled ≡ store.old.filled }
     ensures kept { Kept store.old conn.old.numbers store.new conn.new.numbers }
-    ensures failed_read { F.tells → F.failed_read files.new ≡ F.failed_read files.old }
+    ensures reads { F.reads files.new ≡ F.reads files.old }
     ensures later { F.later files.old files.new }
 {
     match conn.wrote(store, n) {

@@ -65,7 +65,7 @@ pub(crate) fn accept_on<N: Net, F: Files>(
     requires table { IsTable arrival.link.0 (helds clients.old.items) }
     requires backs { F.tells → Backs (F.disk files.now).table (helds clients.old.items) }
     ensures turn { TurnsOn (Accepted arrival.peer arrival.local) arrival.link.0 (serving (served site.now) clients.old.items) (serving (served site.now) clients.new.items) N.tells F.tells
-        (seen_as (F.disk files.now) (F.faults files.now) (F.failed_read files.now)) (seen_as (F.disk files.now) (F.faults files.now) (F.failed_read files.now))
+        (seen_as (F.disk files.now) (F.faults files.now) (F.reads files.now)) (seen_as (F.disk files.now) (F.faults files.now) (F.reads files.now))
         (N.trace net.old) (N.trace net.new) }
     ensures filled { store.new.filled ≡ store.old.filled }
     ensures kept { IsKept store.new clients.new.items }
@@ -109,7 +109,7 @@ pub(crate) fn step_on<N: Net, F: Files>(
     requires places { ArePlaces clients.old.items places.old.items (vec_capacity clients.old) (vec_capacity places.old) }
     requires backs { F.tells → Backs (F.disk files.old).table (helds clients.old.items) }
     ensures turn { TurnsOn (event_of ready) link.0 (serving (served site.now) clients.old.items) (serving (served site.now) clients.new.items) N.tells F.tells
-        (seen_as (F.disk files.old) (F.faults files.old) (F.failed_read files.old)) (seen_as (F.disk files.new) (F.faults files.new) (F.failed_read files.new))
+        (seen_as (F.disk files.old) (F.faults files.old) (F.reads files.old)) (seen_as (F.disk files.new) (F.faults files.new) (F.reads files.new))
         (N.trace net.old) (N.trace net.new) }
     ensures filled { store.new.filled ≤ store.old.filled + TURN_FILL }
     ensures kept { IsKept store.new clients.new.items }

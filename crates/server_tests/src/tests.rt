@@ -15,6 +15,7 @@ use std::test::Fail;
 fn run<N: Net, F: Files>(server: &mut Server, net: &mut N, files: &mut F)
     requires table { IsTable (N.links net.old) server.old.table }
     requires backs { F.tells → Backs (F.disk files.old).table server.old.table }
+    ensures backs { F.tells → Backs (F.disk files.new).table server.new.table }
 {
     for _ in 0..1_000 {
         match server.turn(net, files) {

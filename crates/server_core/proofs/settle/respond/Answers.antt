@@ -7,6 +7,7 @@ use Rattle.server_model.specs.Steps.{number_of}
 use Rattle.connection.specs.Connection.{head_at}
 use Rattle.server_core.proofs.Advancing.{whole_head}
 use Rattle.server_core.proofs.Settling.{plans_at, form_at, same_head}
+use Rattle.server_core.proofs.Planning.{plans_open}
 use Rattle.server_core.proofs.settle.respond.Goals as goal
 
 pub returns-clause-settles : goal.returns-clause-settles
@@ -20,3 +21,7 @@ returns-clause-settles g c =
     c.requires.fits
     (λ f. plans_at c.plan-planned.result (served c.args.site.now) (Some (arrival_of c.args.conn.now.held)) c.owner-owner.result.conn c.args.conn.now.held.link c.owner-owner.result.request (number_of c.args.conn.now.held.stage) c.in-Some.request.now whole.0 (g.F.Files.disk c.args.files.now) (g.F.Files.disk c.plan-planned.new.files)
     c.owner-owner.ensures.conn c.owner-owner.ensures.request same (c.plan-planned.ensures.plans f))
+
+pub serve-requires-clause-opened : goal.serve-requires-clause-opened
+serve-requires-clause-opened g c f =
+    plans_open c.plan-planned.result (served c.args.site.now) (Some (arrival_of c.args.conn.now.held)) c.owner-owner.result.conn c.owner-owner.result.request c.in-Some.request.now (g.F.Files.disk c.args.files.now) (g.F.Files.disk c.plan-planned.new.files) (c.plan-planned.ensures.plans f)

@@ -1,9 +1,11 @@
-use Rattle.std.proofs.Common.{Some}
+use Rattle.std.proofs.Common.{Some, subst}
 use Rattle.server_core.specs.Served.{served}
 use Rattle.server_model.specs.Held.{arrival_of}
 use Rattle.server_model.specs.Settings.{settings_at}
 use Rattle.server_model.specs.Steps.{number_of}
 use Rattle.server_core.specs.Form.{form_of}
+use Rattle.server_core.specs.Planned.{PlansOpen}
+use Rattle.server_core.specs.declared.plan.Planned.{Planned}
 use Rattle.server_core.specs.declared.plan.Planned.TheVariants as planned
 use Rattle.server_core.proofs.Settling.{settles_error, settles_unplanned, error_formed, plans_as}
 use Rattle.server_core.proofs.settle.serve.Goals as goal
@@ -22,3 +24,6 @@ pub returns-in-NoMemory-clause-settles : goal.returns-in-NoMemory-clause-settles
 returns-in-NoMemory-clause-settles g c before head content asking form called here plans =
     settles_unplanned (served c.args.site.now) c.args.conn.now.held g.F.Files.tells before (g.F.Files.disk c.args.files.now) head content asking c.requires.file here
     (λ f. plans_as c.args.planned planned.NoMemory c.in-NoMemory.is (served c.args.site.now) (Some (arrival_of c.args.conn.now.held)) c.args.conn.now.held.link (number_of c.args.conn.now.held.stage) head before (g.F.Files.disk c.args.files.now) (plans f))
+
+pub send_file-requires-clause-opened : goal.send_file-requires-clause-opened
+send_file-requires-clause-opened g c f = subst (λ (p : Planned). PlansOpen p (g.F.Files.disk c.args.files.now)) c.in-File.is (c.requires.opened f)
