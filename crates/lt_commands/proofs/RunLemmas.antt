@@ -63,8 +63,8 @@ unserved_right site tree link = record {
 
 undue : (site : Site) (tree : Tree) → RunsDue site tree [] []
 undue site tree = record {
-  first = told (record { disk = quiet tree; faults = 0; failed_read = None }) [];
-  final = told (record { disk = quiet tree; faults = 0; failed_read = None }) [];
+  first = told (record { disk = quiet tree; faults = 0; reads = record { made = 0; failed = None } }) [];
+  final = told (record { disk = quiet tree; faults = 0; reads = record { made = 0; failed = None } }) [];
   begins = refl;
   tree_is = refl;
   uncalled = refl;
@@ -107,6 +107,6 @@ serves_all disk start server site tree calls faults now_faults failed now_failed
   };
   caused = λ link e is. elim (run_ends site (told_as start faults failed old) (told_as disk now_faults now_failed trace) run link e is) [
     | inl was ↦ absurd (cc (ap (λ (t : List Entry). ending_of (ours (own link t))) untold, was))
-    | inr cause ↦ cause_stays e (own link trace) (own link trace) (Rose faults now_faults) ⊥ (λ failed. failed) (unrisen faults now_faults unfailed (calm ∙ unfailed)) cause
+    | inr cause ↦ cause_stays e (own link trace) (Rose faults now_faults) ⊥ (unrisen faults now_faults unfailed (calm ∙ unfailed)) cause
   ];
 }

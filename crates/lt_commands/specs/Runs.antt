@@ -4,9 +4,8 @@ use Rattle.lt_world.specs.Acts.{ending_of}
 use Rattle.lt_world.specs.declared.net.NextKind.{NextKind}
 use Rattle.lt_world.specs.declared.net.NextKind.TheVariants as kind
 use Rattle.lt_world.specs.declared.net.Ending.{Ending}
-use Rattle.lt_world.specs.declared.net.Owner.{Owner}
 use Rattle.lt_world.specs.declared.files.Call.{Call}
-use Rattle.lt_world.specs.Disk.{Disk, Tree, own_calls}
+use Rattle.lt_world.specs.Disk.{Disk, Reads, Tree, own_calls}
 use Rattle.lt_world.specs.Trace.{Entry}
 use Rattle.server_model.specs.Site.{Site}
 use Rattle.server_model.specs.Client.{IsServedRight}
@@ -23,8 +22,8 @@ FinishFits finish.Over last = last ≡ kind.Over
 FinishFits finish.NoMemory last = last ≡ kind.NoMemory
 
 -- what net and files tell at one time
-abbrev pub told_as : Disk → ℕ → Option Owner → List Entry → Told
-told_as disk faults failed_read trace = record { seen = record { disk = disk; faults = faults; failed_read = failed_read }; trace = trace }
+abbrev pub told_as : Disk → ℕ → Reads → List Entry → Told
+told_as disk faults reads trace = record { seen = record { disk = disk; faults = faults; reads = reads }; trace = trace }
 
 -- each client took a prefix of the stream that the site, the tree, its own deeds and the calls on files for it alone
 -- determine, and all of it where it was closed clean

@@ -23,8 +23,9 @@ pub fn run<N: Net, F: Files>(server: &mut Server, net: &mut N, files: &mut F) ->
     requires backs { F.tells → Backs (F.disk files.old).table server.old.table }
     ensures serves { N.tells → F.tells → Serves (F.disk files.old) (serving_at server.old) (N.trace net.old) → Serves (F.disk files.new) (serving_at server.new) (N.trace net.new) }
     ensures run { N.tells → F.tells → Serves (F.disk files.old) (serving_at server.old) (N.trace net.old) → IsRun server.old.site
-        (told_as (F.disk files.old) (F.faults files.old) (F.failed_read files.old) (N.trace net.old))
-        (told_as (F.disk files.new) (F.faults files.new) (F.failed_read files.new) (N.trace net.new)) }
+        (told_as (F.disk files.old) (F.faults files.old) (F.reads files.old) (N.trace net.old))
+        (told_as (F.disk files.new) (F.faults files.new) (F.reads files.new) (N.trace net.new)) }
+    ensures backs { F.tells → Backs (F.disk files.new).table server.new.table }
     ensures site { server.new.site ≡ server.old.site }
     ensures last { FinishFits result (N.last net.new) }
     ensures over { result ≡ Finish.Over → N.left net.new ≡ 0 }

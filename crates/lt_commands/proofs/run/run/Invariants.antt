@@ -14,8 +14,8 @@ invariant-loop g l = record {
   site : l.server.site ≡ l.fn.server.site;
   serves : g.N.Net.tells → g.F.Files.tells → Serves (g.F.Files.disk l.fn.files) (serving_at l.fn.server) (g.N.Net.trace l.fn.net) → Serves (g.F.Files.disk l.files) (serving_at l.server) (g.N.Net.trace l.net);
   run : g.N.Net.tells → g.F.Files.tells → Serves (g.F.Files.disk l.fn.files) (serving_at l.fn.server) (g.N.Net.trace l.fn.net) → IsRun l.fn.server.site
-      (told_as (g.F.Files.disk l.fn.files) (g.F.Files.faults l.fn.files) (g.F.Files.failed_read l.fn.files) (g.N.Net.trace l.fn.net))
-      (told_as (g.F.Files.disk l.files) (g.F.Files.faults l.files) (g.F.Files.failed_read l.files) (g.N.Net.trace l.net));
+      (told_as (g.F.Files.disk l.fn.files) (g.F.Files.faults l.fn.files) (g.F.Files.reads l.fn.files) (g.N.Net.trace l.fn.net))
+      (told_as (g.F.Files.disk l.files) (g.F.Files.faults l.files) (g.F.Files.reads l.files) (g.N.Net.trace l.net));
   later : g.N.Net.later l.fn.net l.net;
   files_later : g.F.Files.later l.fn.files l.files;
   faults : g.F.Files.faults l.fn.files ≤ g.F.Files.faults l.files;
