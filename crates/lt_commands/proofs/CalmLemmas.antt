@@ -17,7 +17,7 @@ use Rattle.server_model.specs.Site.{Site}
 use Rattle.server_model.specs.Deeds.{Deed, Ours, own, ours}
 use Rattle.server_model.specs.Client.{has_failed}
 use Rattle.server_model.specs.Causes.{IsCause}
-use Rattle.lt_commands.specs.Runs.{Served}
+use Rattle.lt_commands.specs.Runs.{Asked, Served}
 use Rattle.lt_commands.specs.Endings.{IsCalmEnding, AllEndCalmly}
 
 or_right : (a b : Bool) → (a || b) ≡ false → b ≡ false
@@ -54,8 +54,8 @@ calm_cause ending.GatewayCut deeds sound cause = absurd cause
 calm_cause ending.Gate deeds sound cause = absurd cause
 
 -- a run over a net that began with calm steps
-pub calm_run : (site : Site) (tree : Tree) (calls : List Call) (steps : List Step) (a b : Playing) → a ≡ unplayed steps → IsLater a b → IsCalm steps → Served site tree calls b.game.trace → AllEndCalmly b.game.trace
-calm_run site tree calls steps a b begins later calm served link e is =
+pub calm_run : (site : Site) (tree : Tree) (left : Asked) (steps : List Step) (a b : Playing) → a ≡ unplayed steps → IsLater a b → IsCalm steps → Served site tree left b.game.trace → AllEndCalmly b.game.trace
+calm_run site tree left steps a b begins later calm served link e is =
     let same : b.game ≡ played later.calls (unplayed steps).game = later.plays ∙ ap (λ (p : Playing). played later.calls p.game) begins in
     let none : NoneFailed b.game.trace = subst (λ (g : Game). NoneFailed g.trace) (sym same) (calm_never_fails steps later.calls calm) in
     calm_cause e (own link b.game.trace) (unfailed link b.game.trace none) (served.caused link e is)

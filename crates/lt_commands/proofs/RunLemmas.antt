@@ -3,7 +3,8 @@ use Rattle.std.proofs.Common.{◌≡◌, ℕ, List, [], ◌∷◌, arith, ap, re
 use Rattle.std.specs.Prelude.{Option, Some, None}
 use Rattle.lt_world.specs.Acts.{ending_of}
 use Rattle.lt_world.specs.declared.files.Call.{Call}
-use Rattle.lt_world.specs.Disk.{Disk, Tree, own_calls}
+use Rattle.lt_world.specs.Disk.{Disk, Tree, own_calls, Reads}
+use Rattle.lt_world.specs.Memory.{no_files}
 use Rattle.lt_world.specs.Trace.{Entry}
 use Rattle.server_model.specs.Site.{Site}
 use Rattle.server_model.specs.World.{side_of, world_of}
@@ -15,8 +16,7 @@ use Rattle.server_model.proofs.Settled.{stands_right}
 use Rattle.server_model.proofs.Endings.{run_ends, cause_stays}
 use Rattle.lt_world.specs.Causes.{Rose}
 use Rattle.server_core.specs.Table.{freed, all_freed}
-use Rattle.lt_commands.specs.Runs.{ServesRight, RunsDue, Served, told_as}
-use Rattle.lt_world.specs.declared.net.Owner.{Owner}
+use Rattle.lt_commands.specs.Runs.{Asked, asked_of, ServesRight, RunsDue, Served, told_as}
 use Rattle.server_model.specs.Turns.{Seen, IsTurn}
 use Rattle.server_model.specs.Runs.{Told, IsRun, none, more}
 
@@ -61,51 +61,59 @@ unserved_right site tree link = record {
   clean = λ ended. absurd (cc);
 }
 
-undue : (site : Site) (tree : Tree) → RunsDue site tree [] []
+undue : (site : Site) (tree : Tree) → RunsDue site tree (asked_of no_files) []
 undue site tree = record {
   first = told (record { disk = quiet tree; faults = 0; reads = record { made = 0; failed = None } }) [];
   final = told (record { disk = quiet tree; faults = 0; reads = record { made = 0; failed = None } }) [];
   begins = refl;
   tree_is = refl;
   uncalled = refl;
+  unfailed = refl;
+  unread = refl;
   run = none;
   trace_is = refl;
   calls_are = refl;
+  faults_are = refl;
+  reads_are = refl;
   calm = refl;
 }
 
 -- the same of a run that was not begun
-pub unserved : (site : Site) (tree : Tree) (calls : List Call) (trace : List Entry) → calls ≡ [] → trace ≡ [] → Served site tree calls trace
-unserved site tree calls trace uncalled untold =
-    let none_called : Served site tree [] [] = record { right = unserved_right site tree; due = undue site tree; caused = λ link e is. absurd (cc (is)) } in
-    subst (λ (c : List Call). Served site tree c trace) (sym uncalled) (subst (λ (t : List Entry). Served site tree [] t) (sym untold) none_called)
+pub unserved : (site : Site) (tree : Tree) (left : Asked) (trace : List Entry) → left ≡ asked_of no_files → trace ≡ [] → Served site tree left trace
+unserved site tree left trace unasked untold =
+    let none_asked : Served site tree (asked_of no_files) [] = record { right = unserved_right site tree; due = undue site tree; caused = λ link e is. absurd (cc (is)) } in
+    subst (λ (a : Asked). Served site tree a trace) (sym unasked) (subst (λ (t : List Entry). Served site tree (asked_of no_files) t) (sym untold) none_asked)
 
 -- the same root and tree under other names
-pub served_as : (site other : Site) (tree wood : Tree) (calls : List Call) (trace : List Entry) → Served site tree calls trace → site ≡ other → tree ≡ wood → Served other wood calls trace
-served_as site other tree wood calls trace served site_is tree_is =
-    subst (λ (t : Tree). Served other t calls trace) tree_is (subst (λ (s : Site). Served s tree calls trace) site_is served)
+pub served_as : (site other : Site) (tree wood : Tree) (left : Asked) (trace : List Entry) → Served site tree left trace → site ≡ other → tree ≡ wood → Served other wood left trace
+served_as site other tree wood left trace served site_is tree_is =
+    subst (λ (t : Tree). Served other t left trace) tree_is (subst (λ (s : Site). Served s tree left trace) site_is served)
 
 unrisen : (before now : ℕ) → before ≡ 0 → now ≡ 0 → Rose before now → ⊥
 unrisen before now first last rose = grind (arith, first, last, rose)
 
 -- a run after which the server serves, over a tree that stays
-pub serves_all : (disk start : Disk) (server : Serving) (site : Site) (tree : Tree) (calls : List Call) (faults now_faults : ℕ) (failed now_failed : Option Owner) (old trace : List Entry)
-    → old ≡ [] → faults ≡ 0 → now_faults ≡ faults → start.tree ≡ tree → start.calls ≡ [] → Serves disk server trace → server.site ≡ site → disk.tree ≡ tree → disk.calls ≡ calls
-    → IsRun site (told_as start faults failed old) (told_as disk now_faults now_failed trace) → Served site tree calls trace
-serves_all disk start server site tree calls faults now_faults failed now_failed old trace untold unfailed calm start_tree uncalled serves site_is tree_is calls_are run = record {
-  right = serves_right disk server trace site tree calls serves site_is tree_is calls_are;
+pub serves_all : (disk start : Disk) (server : Serving) (site : Site) (tree : Tree) (left : Asked) (faults now_faults : ℕ) (reads now_reads : Reads) (old trace : List Entry)
+    → old ≡ [] → faults ≡ 0 → now_faults ≡ faults → start.tree ≡ tree → start.calls ≡ [] → reads ≡ (asked_of no_files).reads → Serves disk server trace → server.site ≡ site → disk.tree ≡ tree → disk.calls ≡ left.calls → now_faults ≡ left.faults → now_reads ≡ left.reads
+    → IsRun site (told_as start faults reads old) (told_as disk now_faults now_reads trace) → Served site tree left trace
+serves_all disk start server site tree left faults now_faults reads now_reads old trace untold unfailed calm start_tree uncalled unread serves site_is tree_is calls_are faults_are reads_are run = record {
+  right = serves_right disk server trace site tree left.calls serves site_is tree_is calls_are;
   due = record {
-    first = told_as start faults failed old;
-    final = told_as disk now_faults now_failed trace;
+    first = told_as start faults reads old;
+    final = told_as disk now_faults now_reads trace;
     begins = untold;
     tree_is = start_tree;
     uncalled = uncalled;
+    unfailed = unfailed;
+    unread = unread;
     run = run;
     trace_is = refl;
     calls_are = calls_are;
+    faults_are = faults_are;
+    reads_are = reads_are;
     calm = calm;
   };
-  caused = λ link e is. elim (run_ends site (told_as start faults failed old) (told_as disk now_faults now_failed trace) run link e is) [
+  caused = λ link e is. elim (run_ends site (told_as start faults reads old) (told_as disk now_faults now_reads trace) run link e is) [
     | inl was ↦ absurd (cc (ap (λ (t : List Entry). ending_of (ours (own link t))) untold, was))
     | inr cause ↦ cause_stays e (own link trace) (Rose faults now_faults) ⊥ (unrisen faults now_faults unfailed (calm ∙ unfailed)) cause
   ];

@@ -12,6 +12,7 @@ use Rattle.lt_commands.specs.declared.status.Status.{Status}
 use Rattle.lt_commands.specs.declared.status.Status.TheVariants as status
 use Rattle.lt_commands.specs.Endings.{AllEndCalmly}
 use Rattle.lt_commands.specs.Reading.{ReadCause}
+use Rattle.lt_commands.specs.Runs.{Asked, asked_of}
 use Rattle.lt_commands.specs.Serving.{ServesBy}
 use Rattle.lt_commands.proofs.RunLemmas.{unserved}
 
@@ -26,9 +27,9 @@ none_closed : AllEndCalmly []
 none_closed link e is = absurd (cc is)
 
 -- where nothing was run, any root and any script will do, if none was to be played
-pub unrun : (root : List ℕ) (said : Script) (answer : Status) (calls : List Call) (trace : List Entry) → calls ≡ [] → trace ≡ [] → (answer ≡ status.Done → Plays said.steps trace []) → ServesBy root said answer calls trace
-unrun root said answer calls trace uncalled untold plays = record {
-  served = unserved (site_at root) (planted said.files (tree_of no_files)) calls trace uncalled untold;
+pub unrun : (root : List ℕ) (said : Script) (answer : Status) (left : Asked) (trace : List Entry) → left ≡ asked_of no_files → trace ≡ [] → (answer ≡ status.Done → Plays said.steps trace []) → ServesBy root said answer left trace
+unrun root said answer left trace uncalled untold plays = record {
+  served = unserved (site_at root) (planted said.files (tree_of no_files)) left trace uncalled untold;
   calm = λ calm. subst AllEndCalmly (sym untold) none_closed;
   plays = plays;
 }
@@ -38,6 +39,6 @@ pub undone : (A : Type 0) (answer : Status) (before now : ℕ) → ReadCause {A 
 undone A answer before now cause done = subst (λ (s : Status). ReadCause {A = A} (Err s) before now) done cause
 
 -- the same root and script under other names
-pub served_for : (root other : List ℕ) (said script : Script) (answer : Status) (calls : List Call) (trace : List Entry) → ServesBy root said answer calls trace → root ≡ other → said ≡ script → ServesBy other script answer calls trace
-served_for root other said script answer calls trace serves root_is said_is =
-    subst (λ (r : List ℕ). ServesBy r script answer calls trace) root_is (subst (λ (s : Script). ServesBy root s answer calls trace) said_is serves)
+pub served_for : (root other : List ℕ) (said script : Script) (answer : Status) (left : Asked) (trace : List Entry) → ServesBy root said answer left trace → root ≡ other → said ≡ script → ServesBy other script answer left trace
+served_for root other said script answer left trace serves root_is said_is =
+    subst (λ (r : List ℕ). ServesBy r script answer left trace) root_is (subst (λ (s : Script). ServesBy root s answer left trace) said_is serves)

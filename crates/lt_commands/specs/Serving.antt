@@ -15,27 +15,27 @@ use Rattle.lt_commands.specs.declared.status.Status.TheVariants as status
 use Rattle.lt_commands.specs.Endings.{AllEndCalmly}
 use Rattle.lt_commands.specs.Offline.{SinkSays}
 use Rattle.lt_commands.specs.Reading.{HasRoot, HasScript}
-use Rattle.lt_commands.specs.Runs.{Served}
+use Rattle.lt_commands.specs.Runs.{Asked, Served}
 use Rattle.lt_commands.specs.Words.{Replay, SpellsLine}
 
 -- with this document root and this script each client was served right, and what was due followed each event; where no
 -- line of the script makes a read or a write fail, each client that was closed was closed calmly; and a call that was
 -- done has played the script to its end
-pub record ServesBy (root : List ℕ) (said : Script) (answer : Status) (calls : List Call) (trace : List Entry) : Type 0 where
-  pub served : Served (site_at root) (planted said.files (tree_of no_files)) calls trace
+pub record ServesBy (root : List ℕ) (said : Script) (answer : Status) (left : Asked) (trace : List Entry) : Type 0 where
+  pub served : Served (site_at root) (planted said.files (tree_of no_files)) left trace
   pub calm : IsCalm said.steps → AllEndCalmly trace
   pub plays : answer ≡ status.Done → Plays said.steps trace []
 
 -- there are a root and a script for which that holds
-abbrev pub ServesSome : Status → List Call → List Entry → Type 0
-ServesSome answer calls trace = (root : List ℕ) × ((said : Script) × ServesBy root said answer calls trace)
+abbrev pub ServesSome : Status → Asked → List Entry → Type 0
+ServesSome answer left trace = (root : List ℕ) × ((said : Script) × ServesBy root said answer left trace)
 
 -- the call made a run for which that holds; it holds for the root and the script that the texts spell, where they tell
 -- them; and the sink got the report of that run
 pub record Ran (texts_tell sink_tells : Type 0) (words : List (List ℕ)) (held : Library) (answer : Status) (before after : List ℕ) : Type 0 where
-  pub calls : List Call
+  pub left : Asked
   pub trace : List Entry
-  pub some : ServesSome answer calls trace
+  pub some : ServesSome answer left trace
   pub spelled : texts_tell → (conf script root : List ℕ) (said : Script) → SpellsLine words (Replay conf script)
-      → HasRoot (held conf) root → HasScript (held script) said → ServesBy root said answer calls trace
+      → HasRoot (held conf) root → HasScript (held script) said → ServesBy root said answer left trace
   pub reported : sink_tells → (conf script : List ℕ) → SpellsLine words (Replay conf script) → SinkSays answer (report_of trace) before after

@@ -17,7 +17,7 @@ ghost use Rattle.server_model.specs.Site.{site_at};
 ghost use Rattle.server_model.specs.Files.{IsTable, Backs};
 ghost use Rattle.server_model.specs.Serves.{Serves};
 ghost use Rattle.server_core.specs.Within.{serving_at};
-ghost use Rattle.lt_commands.specs.Runs.{FinishFits, Served};
+ghost use Rattle.lt_commands.specs.Runs.{FinishFits, Served, asked_of};
 ghost use Rattle.lt_commands.specs.Endings.{AllEndCalmly};
 ghost use Rattle.lt_commands.specs.Words.{Line, SpellsLine, Replay as replay_line, Print as print_line};
 ghost use Rattle.lt_commands.specs.Reading.{HasRoot, HasScript};
@@ -67,10 +67,10 @@ pub fn offline<X: Texts, S: Sink>(
     // Whatever the texts tell, the clients sent and the sockets took: there is a configuration for which each client took
     // a prefix of its own stream, and all of it where it was closed clean; and what was due for each event followed it
     // in the same turn. Where the texts tell, it is the one that they spell.
-    ensures serves { ServesSome result files.new.calls net.new.game.trace }
+    ensures serves { ServesSome result (asked_of files.new) net.new.game.trace }
     ensures spelled { X.tells → (conf script root : List ℕ) (said : Script) → SpellsLine (map string_bytes words.now) (replay_line conf script)
         → HasRoot (X.texts texts.old conf) root → HasScript (X.texts texts.old script) said
-        → ServesBy root said result files.new.calls net.new.game.trace }
+        → ServesBy root said result (asked_of files.new) net.new.game.trace }
 
     // A call that is refused, and one that prints, asked neither the net nor the files for anything.
     ensures refused { IsRefusal result → (net.new ≡ net.old) × (files.new ≡ files.old) }
@@ -112,9 +112,9 @@ fn replay<X: Texts, S: Sink>(
     ensures faults { FaultsSay result (X.faults texts.old) (X.faults texts.new) (S.faults sink.old) (S.faults sink.new) }
     ensures memory { MemorySays result net.new.last }
     ensures complete { X.tells → (root : List ℕ) (said : Script) → HasRoot (X.texts texts.old conf.now) root → HasScript (X.texts texts.old script.now) said → IsComplete result }
-    ensures serves { ServesSome result files.new.calls net.new.game.trace }
+    ensures serves { ServesSome result (asked_of files.new) net.new.game.trace }
     ensures spelled { X.tells → (root : List ℕ) (said : Script) → HasRoot (X.texts texts.old conf.now) root → HasScript (X.texts texts.old script.now) said
-        → ServesBy root said result files.new.calls net.new.game.trace }
+        → ServesBy root said result (asked_of files.new) net.new.game.trace }
     ensures refused { IsRefusal result → (net.new ≡ net.old) × (files.new ≡ files.old) }
     ensures report { S.tells → SinkSays result (report_of net.new.game.trace) (S.bytes sink.old) (S.bytes sink.new) }
 {
@@ -142,7 +142,7 @@ fn play<S: Sink>(server: Server, net: &mut ScriptNet, files: &mut MemFiles, sink
     requires table { (links : ℕ) → IsTable links server.table }
     requires backs { (disk : Disk) → Backs disk.table server.table }
     requires serves { (disk : Disk) → disk.calls ≡ [] → ((file : ℕ) → disk.table file ≡ None) → Serves disk (serving_at server) [] }
-    ensures serves { Served server.site (tree_of files.old) files.new.calls net.new.game.trace }
+    ensures serves { Served server.site (tree_of files.old) (asked_of files.new) net.new.game.trace }
     ensures ends { PlaySays result net.new.last }
     ensures calm { (steps : List Step) → net.old ≡ unplayed steps → IsCalm steps → AllEndCalmly net.new.game.trace }
     ensures plays { (steps : List Step) → net.old ≡ unplayed steps → result ≡ Status.Done → Plays steps net.new.game.trace [] }
@@ -165,7 +165,7 @@ fn serve(server: Server, net: &mut ScriptNet, files: &mut MemFiles) -> Finish
     requires table { (links : ℕ) → IsTable links server.table }
     requires backs { (disk : Disk) → Backs disk.table server.table }
     requires serves { (disk : Disk) → disk.calls ≡ [] → ((file : ℕ) → disk.table file ≡ None) → Serves disk (serving_at server) [] }
-    ensures serves { Served server.site (tree_of files.old) files.new.calls net.new.game.trace }
+    ensures serves { Served server.site (tree_of files.old) (asked_of files.new) net.new.game.trace }
     ensures last { FinishFits result net.new.last }
     ensures over { result ≡ Finish.Over → events_left net.new.game.left ≡ 0 }
     ensures later { IsLater net.old net.new }

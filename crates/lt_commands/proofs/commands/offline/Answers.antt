@@ -6,6 +6,7 @@ use Rattle.lt_commands.proofs.ServingLemmas.{no_script, nothing_played, unrun}
 use Rattle.lt_commands.specs.Words.{Replay, Print, SpellsLine}
 use Rattle.lt_world.specs.Memory.{Stored}
 use Rattle.script_net.specs.Playing.{Playing}
+use Rattle.lt_commands.specs.Runs.{asked_of}
 use Rattle.lt_commands.proofs.commands.offline.Goals as goal
 
 pub returns-in-None-clause-complete : goal.returns-in-None-clause-complete
@@ -44,9 +45,9 @@ returns-in-Some-Replay-clause-spelled g c told conf script root said spelled roo
 pub returns-in-None-clause-serves : goal.returns-in-None-clause-serves
 returns-in-None-clause-serves g c =
     let untold = ap (λ (p : Playing). p.game.trace) c.requires.net in
-    ([], (no_script, unrun [] no_script _ _ _ (ap (λ (s : Stored). s.calls) c.requires.files) untold (λ done. nothing_played _ untold)))
+    ([], (no_script, unrun [] no_script _ _ _ (ap asked_of c.requires.files) untold (λ done. nothing_played _ untold)))
 
 pub returns-in-Some-Print-clause-serves : goal.returns-in-Some-Print-clause-serves
 returns-in-Some-Print-clause-serves g c =
     let untold = ap (λ (p : Playing). p.game.trace) c.requires.net in
-    ([], (no_script, unrun [] no_script _ _ _ (ap (λ (s : Stored). s.calls) c.requires.files) untold (λ done. nothing_played _ untold)))
+    ([], (no_script, unrun [] no_script _ _ _ (ap asked_of c.requires.files) untold (λ done. nothing_played _ untold)))

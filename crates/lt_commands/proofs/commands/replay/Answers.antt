@@ -12,6 +12,7 @@ use Rattle.lt_commands.specs.Serving.{ServesBy}
 use Rattle.lt_commands.proofs.RunLemmas.{served_as}
 use Rattle.lt_commands.proofs.ServingLemmas.{no_script, unrun, undone, served_for}
 use Rattle.lt_commands.proofs.AskingLemmas.{conf_asks, script_asks, both_asked, play_asks}
+use Rattle.lt_commands.specs.Runs.{asked_of}
 use Rattle.lt_commands.proofs.commands.replay.Goals as goal
 use Rattle.server_model.specs.Site.{site_at}
 
@@ -34,14 +35,14 @@ returns-in-Err-clause-serves g c = (
   [],
   (
     no_script,
-    unrun [] no_script c.in-Err.status _ _ (ap (λ (s : Stored). s.calls) c.requires.files) (ap (λ (p : Playing). p.game.trace) c.requires.net)
+    unrun [] no_script c.in-Err.status _ _ (ap asked_of c.requires.files) (ap (λ (p : Playing). p.game.trace) c.requires.net)
         (λ done. absurd (undone (List ℕ) c.in-Err.status _ _ c.in-Err.ensures.cause done)),
   ),
 )
 
 pub returns-in-Err-clause-spelled : goal.returns-in-Err-clause-spelled
 returns-in-Err-clause-spelled g c told root said rooted held =
-    unrun root said c.in-Err.status _ _ (ap (λ (s : Stored). s.calls) c.requires.files) (ap (λ (p : Playing). p.game.trace) c.requires.net)
+    unrun root said c.in-Err.status _ _ (ap asked_of c.requires.files) (ap (λ (p : Playing). p.game.trace) c.requires.net)
     (λ done. absurd (undone (List ℕ) c.in-Err.status _ _ c.in-Err.ensures.cause done))
 
 pub returns-in-Err-read_script-clause-serves : goal.returns-in-Err-read_script-clause-serves
@@ -49,14 +50,14 @@ returns-in-Err-read_script-clause-serves g c = (
   [],
   (
     no_script,
-    unrun [] no_script c.in-Err-read_script.status _ _ (ap (λ (s : Stored). s.calls) c.requires.files) (ap (λ (p : Playing). p.game.trace) c.requires.net)
+    unrun [] no_script c.in-Err-read_script.status _ _ (ap asked_of c.requires.files) (ap (λ (p : Playing). p.game.trace) c.requires.net)
         (λ done. absurd (undone Script c.in-Err-read_script.status _ _ c.in-Err-read_script.ensures.cause done)),
   ),
 )
 
 pub returns-in-Err-read_script-clause-spelled : goal.returns-in-Err-read_script-clause-spelled
 returns-in-Err-read_script-clause-spelled g c told root said rooted held =
-    unrun root said c.in-Err-read_script.status _ _ (ap (λ (s : Stored). s.calls) c.requires.files) (ap (λ (p : Playing). p.game.trace) c.requires.net)
+    unrun root said c.in-Err-read_script.status _ _ (ap asked_of c.requires.files) (ap (λ (p : Playing). p.game.trace) c.requires.net)
     (λ done. absurd (undone Script c.in-Err-read_script.status _ _ c.in-Err-read_script.ensures.cause done))
 
 pub returns-then-is_err-clause-serves : goal.returns-then-is_err-clause-serves
@@ -65,7 +66,7 @@ returns-then-is_err-clause-serves g c =
       [],
       (
         no_script,
-        unrun [] no_script status.NoMemory _ _ (ap (λ (s : Stored). s.calls) c.load.ensures.rest ∙ ap (λ (s : Stored). s.calls) c.requires.files) (ap (λ (p : Playing). p.game.trace) (kept ∙ c.requires.net))
+        unrun [] no_script status.NoMemory _ _ (ap asked_of c.load.ensures.rest ∙ ap asked_of c.requires.files) (ap (λ (p : Playing). p.game.trace) (kept ∙ c.requires.net))
             (λ done. absurd (cc done)),
       ),
     )
@@ -73,7 +74,7 @@ returns-then-is_err-clause-serves g c =
 pub returns-then-is_err-clause-spelled : goal.returns-then-is_err-clause-spelled
 returns-then-is_err-clause-spelled g c told root said rooted held =
     let kept : c.load.new.self ≡ c.args.net.now = search rules in
-    unrun root said status.NoMemory _ _ (ap (λ (s : Stored). s.calls) c.load.ensures.rest ∙ ap (λ (s : Stored). s.calls) c.requires.files) (ap (λ (p : Playing). p.game.trace) (kept ∙ c.requires.net))
+    unrun root said status.NoMemory _ _ (ap asked_of c.load.ensures.rest ∙ ap asked_of c.requires.files) (ap (λ (p : Playing). p.game.trace) (kept ∙ c.requires.net))
     (λ done. absurd (cc done))
 
 pub returns-clause-serves : goal.returns-clause-serves
@@ -82,7 +83,7 @@ returns-clause-serves g c =
       [],
       (
         no_script,
-        unrun [] no_script status.NoMemory _ _ (ap (λ (s : Stored). s.calls) c.load.ensures.rest ∙ ap (λ (s : Stored). s.calls) c.requires.files) (ap (λ (p : Playing). p.game.trace) loaded)
+        unrun [] no_script status.NoMemory _ _ (ap asked_of c.load.ensures.rest ∙ ap asked_of c.requires.files) (ap (λ (p : Playing). p.game.trace) loaded)
             (λ done. absurd (cc done)),
       ),
     )
@@ -90,7 +91,7 @@ returns-clause-serves g c =
 pub returns-clause-spelled : goal.returns-clause-spelled
 returns-clause-spelled g c told root said rooted held =
     let loaded : c.load.new.self ≡ unplayed c.in-Ok-read_script.script.steps = search rules in
-    unrun root said status.NoMemory _ _ (ap (λ (s : Stored). s.calls) c.load.ensures.rest ∙ ap (λ (s : Stored). s.calls) c.requires.files) (ap (λ (p : Playing). p.game.trace) loaded)
+    unrun root said status.NoMemory _ _ (ap asked_of c.load.ensures.rest ∙ ap asked_of c.requires.files) (ap (λ (p : Playing). p.game.trace) loaded)
     (λ done. absurd (cc done))
 
 pub returns-in-Ok-new-clause-serves : goal.returns-in-Ok-new-clause-serves
@@ -99,9 +100,9 @@ returns-in-Ok-new-clause-serves g c =
     let grown : tree_of c.load.new.files ≡ planted c.in-Ok-read_script.script.files (tree_of c.args.files.now) = search rules in
     let tree_is : tree_of c.load.new.files ≡ planted c.in-Ok-read_script.script.files (tree_of no_files) =
     grown ∙ ap (λ (s : Stored). planted c.in-Ok-read_script.script.files (tree_of s)) c.requires.files in
-    let served = served_as c.in-Ok-new.server.site (site_at c.in-Ok.root) (tree_of c.load.new.files) (planted c.in-Ok-read_script.script.files (tree_of no_files)) c.play.new.files.calls c.play.new.net.game.trace
+    let served = served_as c.in-Ok-new.server.site (site_at c.in-Ok.root) (tree_of c.load.new.files) (planted c.in-Ok-read_script.script.files (tree_of no_files)) (asked_of c.play.new.files) c.play.new.net.game.trace
     c.play.ensures.serves c.in-Ok-new.ensures.site tree_is in
-    let by : ServesBy c.in-Ok.root c.in-Ok-read_script.script c.play.result c.play.new.files.calls c.play.new.net.game.trace = record {
+    let by : ServesBy c.in-Ok.root c.in-Ok-read_script.script c.play.result (asked_of c.play.new.files) c.play.new.net.game.trace = record {
       served = served;
       calm = c.play.ensures.calm c.in-Ok-read_script.script.steps loaded;
       plays = c.play.ensures.plays c.in-Ok-read_script.script.steps loaded;
@@ -116,9 +117,9 @@ returns-in-Ok-new-clause-spelled g c told root said rooted held =
     let grown : tree_of c.load.new.files ≡ planted c.in-Ok-read_script.script.files (tree_of c.args.files.now) = search rules in
     let tree_is : tree_of c.load.new.files ≡ planted c.in-Ok-read_script.script.files (tree_of no_files) =
     grown ∙ ap (λ (s : Stored). planted c.in-Ok-read_script.script.files (tree_of s)) c.requires.files in
-    let served = served_as c.in-Ok-new.server.site (site_at c.in-Ok.root) (tree_of c.load.new.files) (planted c.in-Ok-read_script.script.files (tree_of no_files)) c.play.new.files.calls c.play.new.net.game.trace
+    let served = served_as c.in-Ok-new.server.site (site_at c.in-Ok.root) (tree_of c.load.new.files) (planted c.in-Ok-read_script.script.files (tree_of no_files)) (asked_of c.play.new.files) c.play.new.net.game.trace
     c.play.ensures.serves c.in-Ok-new.ensures.site tree_is in
-    let by : ServesBy c.in-Ok.root c.in-Ok-read_script.script c.play.result c.play.new.files.calls c.play.new.net.game.trace = record {
+    let by : ServesBy c.in-Ok.root c.in-Ok-read_script.script c.play.result (asked_of c.play.new.files) c.play.new.net.game.trace = record {
       served = served;
       calm = c.play.ensures.calm c.in-Ok-read_script.script.steps loaded;
       plays = c.play.ensures.plays c.in-Ok-read_script.script.steps loaded;
