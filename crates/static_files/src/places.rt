@@ -47,7 +47,7 @@ fn try_at<F: Files>(files: &mut F, owner: Owner, physical: &[u8]) -> Tried
     ensures tried { F.tells → TriedTo result owner physical.now (F.disk files.old) (F.disk files.new) }
     ensures cause { FailedBy result (F.faults files.old) (F.faults files.new) }
     ensures faults { F.faults files.old ≤ F.faults files.new }
-    ensures failed_read { F.tells → F.failed_read files.new ≡ F.failed_read files.old }
+    ensures reads { F.reads files.new ≡ F.reads files.old }
     ensures later { F.later files.old files.new }
 {
     match files.find(owner, physical) {
@@ -71,7 +71,7 @@ fn find_among<F: Files>(
     ensures tries { F.tells → Tries owner path.now physical.now names.now (F.disk files.old) result (F.disk files.new) }
     ensures cause { Failed500 result (F.faults files.old) (F.faults files.new) }
     ensures faults { F.faults files.old ≤ F.faults files.new }
-    ensures failed_read { F.tells → F.failed_read files.new ≡ F.failed_read files.old }
+    ensures reads { F.reads files.new ≡ F.reads files.old }
     ensures later { F.later files.old files.new }
 {
     for name in names {
@@ -111,7 +111,7 @@ pub fn find_file<F: Files>(
     ensures tries { F.tells → Tries owner path.now physical.now index.now (F.disk files.old) result (F.disk files.new) }
     ensures cause { Failed500 result (F.faults files.old) (F.faults files.new) }
     ensures faults { F.faults files.old ≤ F.faults files.new }
-    ensures failed_read { F.tells → F.failed_read files.new ≡ F.failed_read files.old }
+    ensures reads { F.reads files.new ≡ F.reads files.old }
     ensures later { F.later files.old files.new }
 {
     find_among(alloc, files, owner, path, physical, index.as_slice())

@@ -26,7 +26,7 @@ loop-name-preserved g c = record {
   tries = λ told result after more. c.loop-name.invariant.tries told result after
       (next_at c.args.owner c.args.path.now c.args.physical.now c.args.names.now c.loop-name.name-index c.name-item.result c.in-Ok.stands (g.F.Files.disk c.loop-name.files) (g.F.Files.disk c.try_at.new.files) result after c.loop-name-test.true c.name-item.is (c.in-Ok.ensures ∙ ap (λ b. c.args.physical.now ++ b) c.bytes.ensures.value) (subst (λ (z : List ℕ). TriedTo tried.Other c.args.owner z (g.F.Files.disk c.loop-name.files) (g.F.Files.disk c.try_at.new.files)) c.bytes-in-loop-name.ensures.value (c.in-Other.ensures.tried told)) more);
   faults = omega (arith, c.loop-name.invariant.faults, c.try_at.ensures.faults);
-  failed_read = λ told. c.try_at.ensures.failed_read told ∙ c.loop-name.invariant.failed_read told;
+  reads = c.try_at.ensures.reads ∙ c.loop-name.invariant.reads;
   later = g.met.F.Files.later_later c.args.files.now c.loop-name.files c.try_at.new.files c.loop-name.invariant.later c.try_at.ensures.later;
 }
 

@@ -10,6 +10,6 @@ abbrev pub invariant-loop-name : goal.invariant-loop-name
 invariant-loop-name g l = record {
   tries : g.F.Files.tells → (result : Result Place NoMemory) (after : Disk) → Tries l.owner l.path l.physical (drop l.name-index l.names) (g.F.Files.disk l.files) result after → Tries l.owner l.path l.physical l.names (g.F.Files.disk l.initial.files) result after;
   faults : g.F.Files.faults l.initial.files ≤ g.F.Files.faults l.files;
-  failed_read : g.F.Files.tells → g.F.Files.failed_read l.files ≡ g.F.Files.failed_read l.initial.files;
+  reads : g.F.Files.reads l.files ≡ g.F.Files.reads l.initial.files;
   later : g.F.Files.later l.initial.files l.files;
 }
