@@ -1,0 +1,5 @@
+pub mod Placed
+pub mod Tables
+pub mod Evaluated
+pub mod Forms
+pub mod Loads

@@ -1,0 +1,30 @@
+use Rattle.std.proofs.Common.{◌≡◌, ◌∙◌, ◌++◌, ◌∷◌, [], ℕ, List, length, Option, Some, ap, sym, subst, if◌then◌else◌}
+use Rattle.std.specs.Str.{bytes_eq}
+use Rattle.conf_value.specs.declared.block.Setting.{Setting}
+use Rattle.conf_eval.specs.Forms.{AreGood}
+use Rattle.conf_eval.specs.Places.{place_in, place_of_setting}
+use Rattle.conf_eval.specs.Settings.{setting, with_setting}
+use Rattle.conf_eval.proofs.Forms.{good_set}
+use Rattle.conf_eval.proofs.Tables.{sets_last}
+use Rattle.conf_eval.proofs.table.Table.append.Goals as goal
+
+pub invariant_of-self-in-Ok : goal.invariant_of-self-in-Ok
+invariant_of-self-in-Ok c =
+    let ss = c.self.inside.settings in
+    let key = c.args.key in
+    let h = sets_last ss key (ap (λ (l : List Setting). place_of_setting l key) c.self.view_is ∙ c.requires.absent) in
+    let pushed : c.push.new.self ≡ ss ++ setting key c.args.value ∷ [] = c.in_ok-push.ensures.ok ∙ ap (λ (x : Setting). ss ++ x ∷ []) c.setting.ensures in (
+      λ q. c.in-Ok.ensures.ok q
+          ∙ ap (λ (bs : List ℕ). if bytes_eq bs q then Some c.len-at.result else place_in c.self.inside.places q) (c.in_ok-name.ensures ∙ c.bytes.ensures.value)
+          ∙ ap (λ (n : ℕ). if bytes_eq key q then Some n else place_in c.self.inside.places q) c.len-at.ensures
+          ∙ ap (λ (o : Option ℕ). if bytes_eq key q then Some (length ss) else o) (c.self.invariant.0 q)
+          ∙ sym (h.placed c.args.value q) ∙ ap (λ (l : List Setting). place_of_setting l q) (sym pushed),
+      subst AreGood (h.put c.args.value ∙ sym pushed) (good_set ss key c.args.value c.self.invariant.1 c.requires.taken),
+    )
+
+pub returns-in-Ok : goal.returns-in-Ok
+returns-in-Ok c =
+    let ss = c.self.inside.settings in
+    let key = c.args.key in
+    let h = sets_last ss key (ap (λ (l : List Setting). place_of_setting l key) c.self.view_is ∙ c.requires.absent) in
+    c.in_ok-push.ensures.ok ∙ ap (λ (x : Setting). ss ++ x ∷ []) c.setting.ensures ∙ sym (h.put c.args.value) ∙ ap (λ (l : List Setting). with_setting l key c.args.value) c.self.view_is

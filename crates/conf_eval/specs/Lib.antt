@@ -1,0 +1,10 @@
+pub mod Stored
+pub mod Places
+pub mod Faults
+pub mod Values
+pub mod Settings
+pub mod Forms
+pub mod Global
+pub mod Load
+pub mod Trees
+pub mod Answers
