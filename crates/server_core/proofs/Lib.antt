@@ -8,3 +8,4 @@ pub mod Offering
 pub mod Placed
 pub mod Tabled
 pub mod Closing
+pub mod Truths

@@ -1,10 +1,11 @@
 -- What the answers of find and open plan.
-use Rattle.std.proofs.Common.{◌≡◌, ℕ, ◌++◌, List, refl, sym, ◌∙◌, ap, subst, false, true, None, Option}
+use Rattle.std.proofs.Common.{◌≡◌, ℕ, ◌++◌, List, refl, sym, ◌∙◌, ap, subst, false, true, None, Some, Option}
 use Rattle.lt_world.specs.declared.files.FileCall.TheVariants as call
 use Rattle.lt_world.specs.declared.net.Owner.{Owner}
 use Rattle.lt_world.specs.Disk.{Disk, Node, Missing, Directory, File, IsFileAt, asked, opened}
 use Rattle.lt_world.specs.FileAnswers.{OpensFile}
 use Rattle.server_model.specs.World.{Arrival}
+use Rattle.server_model.specs.Settings.{settings_at}
 use Rattle.server_model.specs.Site.{Site}
 use Rattle.server_model.specs.Request.{Head}
 use Rattle.server_model.specs.Plan.{is_served}
@@ -14,8 +15,8 @@ use Rattle.server_core.specs.Planned.{Plans, PlansOpen, OpensAs}
 use Rattle.server_core.specs.declared.plan.Planned.{Planned}
 use Rattle.server_core.specs.declared.plan.Planned.TheVariants as planned
 
-module _ (arrival : Option Arrival) (site : Site) (head : Head) (place : List ℕ) (owner : Owner) (before found : Disk) (at : place ≡ site.root ++ head.target.path) (is : found ≡ asked call.Find owner false before) where
-  there : (node : Node) → before.tree place ≡ node → before.tree (site.root ++ head.target.path) ≡ node
+module _ (arrival : Option Arrival) (site : Site) (head : Head) (place : List ℕ) (owner : Owner) (before found : Disk) (at : place ≡ (settings_at site arrival (Some head)).root ++ head.target.path) (is : found ≡ asked call.Find owner false before) where
+  there : (node : Node) → before.tree place ≡ node → before.tree ((settings_at site arrival (Some head)).root ++ head.target.path) ≡ node
   there node n = ap before.tree (sym at) ∙ n
 
   pub planned_missing : before.tree place ≡ Missing → PlansError 404 site arrival owner.conn owner.request head before found
@@ -33,7 +34,7 @@ module _ (arrival : Option Arrival) (site : Site) (head : Head) (place : List �
 
   opens_file : (file size time : ℕ) (mid after : Disk) → is_served head.method ≡ true → mid ≡ asked call.Find owner false before → OpensFile file size time owner place mid after → PlansFile file size site arrival owner.conn owner.request head before after
   opens_file file size time mid after served same o =
-      let there_now : before.tree (site.root ++ head.target.path) ≡ File o.bytes time = there (File o.bytes time) (sym (ap (λ (d : Disk). d.tree place) same) ∙ o.is_there) in
+      let there_now : before.tree ((settings_at site arrival (Some head)).root ++ head.target.path) ≡ File o.bytes time = there (File o.bytes time) (sym (ap (λ (d : Disk). d.tree place) same) ∙ o.is_there) in
       let after_now : after ≡ opened file o.bytes (asked call.Open owner false (asked call.Find owner false before)) = o.after_is ∙ ap (λ (d : Disk). opened file o.bytes (asked call.Open owner false d)) same in
       let fresh : before.table file ≡ None = sym (ap (λ (d : Disk). d.table file) same) ∙ o.fresh in
       subst (PlansFile file size site arrival owner.conn owner.request head before) (sym after_now)

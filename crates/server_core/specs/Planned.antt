@@ -14,7 +14,7 @@ use Rattle.server_core.specs.declared.plan.Planned.TheVariants.{Error, File, NoM
 abbrev pub Plans : Planned → Site → Option Arrival → ℕ → ℕ → Head → Disk → Disk → Type 0
 Plans (Error status) site arrival client k head before after = PlansError status site arrival client k head before after
 Plans (File file size) site arrival client k head before after = PlansFile file.0 size site arrival client k head before after
-Plans NoMemory site arrival client k head before after = CallsFor site client k head None before after
+Plans NoMemory site arrival client k head before after = CallsFor site arrival client k head None before after
 
 -- what the answer to an open becomes
 abbrev pub OpensAs : Planned → Owner → List ℕ → Disk → Disk → Type 0

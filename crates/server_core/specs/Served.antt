@@ -3,4 +3,4 @@ use Rattle.server_model.specs.Site as model
 use Rattle.server_core.specs.declared.site.Site.{Site}
 
 abbrev pub served : Site → model.Site
-served site = record { root = site.root }
+served site = record { blocks = site.config.now.blocks }

@@ -19,7 +19,7 @@ pub(crate) struct Form {
 
 impl Form {
     /// That of the reply to a request of this number, counted from 0, where a connection may send so many.
-    pub(crate) fn of(request: &Request, number: u32, limit: u32) -> Form
+    pub(crate) fn of(request: &Request, number: u32, limit: u64) -> Form
         ensures form { result ≡ form_of limit number request.now }
     {
         Form {
@@ -48,16 +48,16 @@ impl Form {
     }
 }
 
-fn is_last(request: &Request, number: u32, limit: u32) -> bool
+fn is_last(request: &Request, number: u32, limit: u64) -> bool
     ensures { result ≡ is_last_request limit number request.now }
 {
     request.close || is_reached(number, limit)
 }
 
-fn is_reached(number: u32, limit: u32) -> bool
+fn is_reached(number: u32, limit: u64) -> bool
     ensures { result ≡ is_reached limit number }
 {
-    number >= u32::MAX || number + 1 >= limit
+    number >= u32::MAX || u64::from(number) + 1 >= limit
 }
 
 fn is_head(request: &Request) -> bool

@@ -7,11 +7,11 @@
 
 mod client;
 mod form;
+mod lending;
 mod places;
 mod plan;
 mod replies;
 mod server;
-mod settings;
 mod settle;
 mod site;
 mod step;

@@ -4,6 +4,7 @@ ghost use Rattle.server_core.specs.Served.{served};
 ghost use Rattle.server_core.specs.Planned.{Plans, PlansWithin, OpensAs};
 ghost use Rattle.lt_world.specs.Disk.{IsFileAt};
 ghost use Rattle.server_model.specs.Held.{arrival_of};
+ghost use Rattle.server_model.specs.Settings.{settings_at};
 
 use crate::form::is_served;
 use crate::site::Site;
@@ -22,21 +23,23 @@ pub(crate) enum Planned {
     NoMemory,
 }
 
-/// Asks the files what stands at the path of the client's request below the document root.
+/// Asks the files what stands at the path of the client's request below the document root of its settings.
 pub(crate) fn plan<F: Files>(
-    site: &Site,
+    site: &Site<'_>,
     conn: &Conn,
+    root: &[u8],
     request: &Request,
     files: &mut F,
     owner: Owner,
 ) -> Planned
+    requires root { root.now ≡ (settings_at (served site.now) (Some (arrival_of conn.now.held)) (Some request.now)).root }
     ensures plans { F.tells → Plans result (served site.now) (Some (arrival_of conn.now.held)) owner.conn owner.request request.now (F.disk files.old) (F.disk files.new) }
     ensures within { PlansWithin result }
     ensures reads { F.reads files.new ≡ F.reads files.old }
     ensures later { F.later files.old files.new }
 {
     let _ = conn;
-    let Ok(place) = place_of(site.alloc, site.root.bytes(), request.target.path.bytes()) else {
+    let Ok(place) = place_of(site.alloc, root, request.target.path.bytes()) else {
         return Planned::NoMemory;
     };
     match files.find(owner, place.bytes()) {

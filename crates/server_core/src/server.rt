@@ -16,13 +16,13 @@ ghost use Rattle.server_core.specs.Turns.{Turned, OnRest, KindFits, Uses};
 
 use crate::client::Client;
 use crate::places::{CONNECTION_LIMIT, clear, free_places};
-use crate::replies::Replies;
 use crate::site::Site;
 use crate::step::{Ready, release};
 use crate::table::{Arrival, accept_on, step_on};
 use crate::turn::Turn;
 use chunkqueue::{BUFFER_SIZE, Store};
-use lt_bytes::{NoMemory, Text};
+use conf_value::Config;
+use lt_bytes::NoMemory;
 use lt_world::{Event, Files, Net};
 use std::alloc::Global;
 use std::marker::Model;
@@ -39,8 +39,8 @@ pub struct Held {
 }
 
 /// A server: what it serves, and the clients that are open. It must be closed: it can't be dropped.
-pub struct Server {
-    site: Site,
+pub struct Server<'c> {
+    site: Site<'c>,
     clients: Vec<Client>,
     // Places for the clients that may still come.
     places: Vec<Client>,
@@ -49,10 +49,15 @@ pub struct Server {
     scratch: Box<[u8; BUFFER_SIZE]>,
 }
 
-impl Model for Server {
+impl<'c> Model for Server<'c> {
     ghost use Rattle.server_core.specs.Within.{Running};
 
     ghost Value = { Running };
+
+    ghost use Rattle.conf_value.specs.contracts.value.Value as values;
+    ghost use Rattle.std.specs.Coded.{codes};
+
+    ghost coded = { Prim.hlevel (codes, values.the_row.coded) };
 
     ghost use Rattle.server_core.specs.Within.{running_of, IsServer};
 
@@ -61,10 +66,10 @@ impl Model for Server {
     ghost invariant = { IsServer };
 }
 
-impl Server {
-    /// A server of the files below a document root, with no client.
-    pub fn new(alloc: Global, root: Text) -> Result<Server, NoMemory>
-        ensures site { IfOk result (λ server. server.site ≡ site_at root) }
+impl<'c> Server<'c> {
+    /// A server of what a configuration says, with no client.
+    pub fn new(alloc: Global, config: &'c Config) -> Result<Server<'c>, NoMemory>
+        ensures site { IfOk result (λ server. server.site ≡ site_at config.now.blocks) }
         ensures empty { IfOk result (λ server. server.table ≡ []) }
         ensures spare { IfOk result (λ server. SPARE_BUFFERS ≤ length server.pool.free) }
         ensures table { IfOk result (λ server. (links : ℕ) → IsTable links server.table) }
@@ -75,15 +80,11 @@ impl Server {
             Ok(scratch) => scratch,
             Err(_) => return Err(NoMemory),
         };
-        let replies = Replies::new(alloc)?;
+        let site = Site::new(alloc, config)?;
         let mut store = spare_buffers(alloc)?;
         match room(alloc, &mut store) {
             Ok((clients, places)) => Ok(Server {
-                site: Site {
-                    alloc,
-                    root,
-                    replies,
-                },
+                site,
                 clients,
                 places,
                 store,
@@ -198,11 +199,11 @@ impl Server {
 
     /// Ends the server: it gives every file back that it keeps. No client is told.
     pub fn close<F: Files>(self, files: &mut F)
-        requires backs { F.tells → Backs (F.disk files.old).table self.table }
-        ensures disk { F.tells → F.disk files.new ≡ all_freed self.table (F.disk files.old) }
+        requires backs { F.tells → Backs (F.disk files.old).table self.entry.table }
+        ensures disk { F.tells → F.disk files.new ≡ all_freed self.entry.table (F.disk files.old) }
 
         // Where it serves, no file is open then.
-        ensures none_open { F.tells → (trace : List Entry) → Serves (F.disk files.old) (serving_at self) trace → (file : ℕ) → (F.disk files.new).table file ≡ None }
+        ensures none_open { F.tells → (trace : List Entry) → Serves (F.disk files.old) (serving_at self.entry) trace → (file : ℕ) → (F.disk files.new).table file ≡ None }
         ensures faults { F.faults files.old ≤ F.faults files.new }
         ensures reads { F.reads files.new ≡ F.reads files.old }
         ensures later { F.later files.old files.new }

@@ -21,9 +21,9 @@ ghost use Rattle.server_core.specs.Served.{served};
 ghost use Rattle.server_core.specs.Steps.{is_idle, IsFree, IsAdvanced, WaitsOn, GivenBy};
 
 use crate::form::Form;
+use crate::lending::settings_for;
 use crate::plan::{Planned, plan};
 use crate::replies::REPLY_LIMIT;
-use crate::settings::settings_for;
 use crate::site::Site;
 use chunkqueue::{BUFFER_SIZE, Chunks, Queue, Store};
 use connection::{Conn, INPUT_LIMIT, Stage};
@@ -40,7 +40,7 @@ pub(crate) const SETTLE_FILL: usize = INPUT_LIMIT + 25 + REPLY_FILL;
 /// is to be closed, where it is.
 pub(crate) fn settle<F: Files>(
     conn: &mut Conn,
-    site: &Site,
+    site: &Site<'_>,
     store: &mut Store,
     files: &mut F,
 ) -> Option<Ending>
@@ -68,7 +68,7 @@ pub(crate) fn settle<F: Files>(
 // The head of a request is there: as much of its body is read as came.
 fn read_body<F: Files>(
     conn: &mut Conn,
-    site: &Site,
+    site: &Site<'_>,
     store: &mut Store,
     files: &mut F,
 ) -> Option<Ending>
@@ -85,7 +85,7 @@ fn read_body<F: Files>(
     ensures later { F.later files.old files.new }
 {
     let settings = settings_for(site, conn);
-    let Ok(()) = conn.accept_body(store, settings.body_limit) else {
+    let Ok(()) = conn.accept_body(store, settings.server_max_request_size) else {
         return Some(Ending::NoMemory);
     };
     let Ok(stage) = conn.advance(store) else {
@@ -97,7 +97,7 @@ fn read_body<F: Files>(
 // Does what the bytes that came call for.
 fn go_on<F: Files>(
     conn: &mut Conn,
-    site: &Site,
+    site: &Site<'_>,
     store: &mut Store,
     files: &mut F,
     stage: Stage,
@@ -125,7 +125,7 @@ fn go_on<F: Files>(
         Stage::Refused(status) => {
             let form = Form::of_refused(conn.request());
             let settings = settings_for(site, conn);
-            refuse(conn, site, store, settings.tag, form, status)
+            refuse(conn, site, store, settings.server_tag, form, status)
         }
         Stage::Whole => respond(conn, site, store, files),
     }
@@ -134,7 +134,7 @@ fn go_on<F: Files>(
 // Answers the request that is there.
 fn respond<F: Files>(
     conn: &mut Conn,
-    site: &Site,
+    site: &Site<'_>,
     store: &mut Store,
     files: &mut F,
 ) -> Option<Ending>
@@ -155,15 +155,26 @@ fn respond<F: Files>(
         return None;
     };
     let settings = settings_for(site, conn);
-    let form = Form::of(request, owner.request, settings.request_limit);
-    let planned = plan(site, conn, request, files, owner);
-    serve(conn, site, store, files, settings.tag, form, planned)
+    let form = Form::of(
+        request,
+        owner.request,
+        settings.server_max_keep_alive_requests,
+    );
+    let planned = plan(
+        site,
+        conn,
+        settings.server_document_root,
+        request,
+        files,
+        owner,
+    );
+    serve(conn, site, store, files, settings.server_tag, form, planned)
 }
 
 // Answers as is planned.
 fn serve<F: Files>(
     conn: &mut Conn,
-    site: &Site,
+    site: &Site<'_>,
     store: &mut Store,
     files: &mut F,
     tag: &[u8],
@@ -197,7 +208,7 @@ fn serve<F: Files>(
 // Answers with an error.
 fn refuse(
     conn: &mut Conn,
-    site: &Site,
+    site: &Site<'_>,
     store: &mut Store,
     tag: &[u8],
     form: Form,
@@ -222,7 +233,7 @@ fn refuse(
 // Answers with the bytes of an opened file, or with their number alone.
 fn send_file<F: Files>(
     conn: &mut Conn,
-    site: &Site,
+    site: &Site<'_>,
     store: &mut Store,
     files: &mut F,
     tag: &[u8],

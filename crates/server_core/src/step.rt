@@ -73,7 +73,7 @@ pub(crate) enum Ready {
 /// One read or one write, as the link is ready, and what follows. Answers how the client is to be closed, where it is.
 pub(crate) fn step_for<N: Net, F: Files>(
     conn: &mut Conn,
-    site: &Site,
+    site: &Site<'_>,
     store: &mut Store,
     scratch: &mut [u8; BUFFER_SIZE],
     net: &mut N,
@@ -110,7 +110,7 @@ pub(crate) fn step_for<N: Net, F: Files>(
 // Reads once where a read is wanted, and does what follows. Answers how the client is to be closed, where it is.
 fn read_for<N: Net, F: Files>(
     conn: &mut Conn,
-    site: &Site,
+    site: &Site<'_>,
     store: &mut Store,
     scratch: &mut [u8; BUFFER_SIZE],
     net: &mut N,
@@ -153,7 +153,7 @@ fn read_for<N: Net, F: Files>(
 // Reads once into a buffer, and does what follows.
 fn receive<N: Net, F: Files>(
     conn: &mut Conn,
-    site: &Site,
+    site: &Site<'_>,
     store: &mut Store,
     net: &mut N,
     files: &mut F,
@@ -202,7 +202,7 @@ fn receive<N: Net, F: Files>(
 // Offers once what is owed, and does what follows. Answers how the client is to be closed, where it is.
 fn write_for<N: Net, F: Files>(
     conn: &mut Conn,
-    site: &Site,
+    site: &Site<'_>,
     store: &mut Store,
     net: &mut N,
     files: &mut F,

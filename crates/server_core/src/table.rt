@@ -52,7 +52,7 @@ fn place(clients: &[Client], link: Link) -> Option<usize>
 pub(crate) fn accept_on<N: Net, F: Files>(
     clients: &mut Vec<Client>,
     places: &mut Vec<Client>,
-    site: &Site,
+    site: &Site<'_>,
     store: &mut Store,
     net: &mut N,
     files: &F,
@@ -94,7 +94,7 @@ pub(crate) fn accept_on<N: Net, F: Files>(
 pub(crate) fn step_on<N: Net, F: Files>(
     clients: &mut Vec<Client>,
     places: &mut Vec<Client>,
-    site: &Site,
+    site: &Site<'_>,
     store: &mut Store,
     scratch: &mut [u8; BUFFER_SIZE],
     net: &mut N,

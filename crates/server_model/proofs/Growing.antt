@@ -150,8 +150,8 @@ module _ (world : World) (made : FileCall) (k j : ℕ) (failed : Bool) (apart : 
 
   -- a call for another request
   pub calls_other : (head : Head) (what : FileCall) → calls_of (with_call made k failed world) j head what ≡ calls_of world j head what
-  calls_other head call.Find = finds_other 0 (places_of world.site head)
-  calls_other head call.Open = ap (λ (s : Sought). opens_by s (is_served head.method)) (sought_other 0 (places_of world.site head))
+  calls_other head call.Find = finds_other 0 (places_of (settings_of world (Some head)) head)
+  calls_other head call.Open = ap (λ (s : Sought). opens_by s (is_served head.method)) (sought_other 0 (places_of (settings_of world (Some head)) head))
   calls_other head call.Read = refl
 
   pub reply_other : (r : Request) → reply (with_call made k failed world) j r ≡ reply world j r
@@ -160,7 +160,7 @@ module _ (world : World) (made : FileCall) (k j : ℕ) (failed : Bool) (apart : 
   reply_other (Open head) = refl
   reply_other (Declined status head) = refl
   reply_other (Complete head content) =
-      (λ i. planned_reply j head (continue_of (limit_for world) head) (outcome (settings_of world (Some head)) (sought_other 0 (places_of world.site head) i) (failed_other call.Open 0 i) (is_served head.method)))
+      (λ i. planned_reply j head (continue_of (limit_for world) head) (outcome (settings_of world (Some head)) (sought_other 0 (places_of (settings_of world (Some head)) head) i) (failed_other call.Open 0 i) (is_served head.method)))
 
 -- a call that comes as its request is planned
 pub planned_stays : (world : World) (what : FileCall) (k : ℕ) (failed : Bool) (input output : List ℕ) → Passed k (replies_to world input) output → IsPrefix output (stream_of (with_call what k failed world) input)

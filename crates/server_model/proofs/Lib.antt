@@ -30,3 +30,4 @@ pub mod Endings
 pub mod Rows
 pub mod Limited
 pub mod Refusals
+pub mod Valued

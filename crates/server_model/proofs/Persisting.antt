@@ -1,11 +1,11 @@
 -- Which reply is the last of its connection, and how many there are at most.
-use Rattle.std.proofs.Common.{◌≡◌, ◌⊎◌, inl, inr, ℕ, zero, suc, ◌+◌, ◌<◌, List, take, Bool, true, false, ◌||◌, nat_le, refl, sym, ◌∙◌, ap, arith}
+use Rattle.std.proofs.Common.{◌≡◌, ◌⊎◌, inl, inr, ℕ, zero, suc, ◌+◌, ◌<◌, ◌≤◌, List, take, Bool, true, false, ◌||◌, nat_le, refl, sym, ◌∙◌, ap, arith}
 use Rattle.std.specs.Prelude.{not, Some, ◌++◌}
 use Rattle.std.proofs.lemmas.Bool.{false≢true}
 use Rattle.std.proofs.lemmas.Bool.Decides.{nat_tests}
 use Rattle.http_head.specs.Options.{closes}
 use Rattle.http_head.proofs.OptionLemmas.{options_so}
-use Rattle.server_model.specs.Settings.{Settings, request_limit, settings_at, settings_of, limit_for, is_reached, is_last_request}
+use Rattle.server_model.specs.Settings.{Settings, settings_of, limit_for, is_reached, is_last_request}
 use Rattle.server_model.specs.Request.{Head, Request, Unfinished, Refused, Open, Declined, Complete, Limits, request_of, rest_of}
 use Rattle.server_model.specs.World.{World, has_failed_call}
 use Rattle.server_model.specs.Plan.{Sought, Fault, Nowhere, Found, sought, places_of, outcome, is_served, plan}
@@ -32,7 +32,7 @@ outcome_settings settings (Found bytes) true true = refl
 outcome_settings settings (Found bytes) false true = refl
 
 pub plan_settings : (world : World) (k : ℕ) (head : Head) → (plan world k head).settings ≡ settings_of world (Some head)
-plan_settings world k head = outcome_settings (settings_of world (Some head)) (sought world k 0 (places_of world.site head)) (has_failed_call world k call.Open 0) (is_served head.method)
+plan_settings world k head = outcome_settings (settings_of world (Some head)) (sought world k 0 (places_of (settings_of world (Some head)) head)) (has_failed_call world k call.Open 0) (is_served head.method)
 
 -- the reply to a request is the last exactly where its head says so, or no further request may come
 pub last_is : (world : World) (k : ℕ) (bytes : List ℕ) (head : Head) (content : List ℕ) → request_of (limit_for world) bytes ≡ Complete head content → (reply world k (Complete head content)).last ≡ (closes head.minor head.fields || is_reached (settings_of world (Some head)).request_limit k)
@@ -58,33 +58,37 @@ pub passed_unreached : (world : World) (input before : List ℕ) (k j : ℕ) (he
     → request_of (limit_for world) (left_after (limit_for world) j input) ≡ Complete head content → is_reached (settings_of world (Some head)).request_limit j ≡ false
 passed_unreached world input before k j head content passed below is = followed_unreached world j head content (ap (λ (r : Request). is_followed (reply world j r)) (sym is) ∙ passed_followed world input k before passed j below)
 
--- so it isn't where each has the same limit
-followed_below : (world : World) (k : ℕ) (r : Request) → is_followed (reply world k r) ≡ true → k + 1 < request_limit
-unfolding settings_at
-followed_below world k Unfinished is = absurd (false≢true is)
-followed_below world k (Refused status) is = absurd (false≢true is)
-followed_below world k (Open head) is = absurd (false≢true is)
-followed_below world k (Declined status head) is = absurd (false≢true is)
-followed_below world k (Complete head content) is =
-    let unreached : is_reached request_limit k ≡ false = followed_unreached world k head content is in
-    let below : nat_le request_limit (k + 1) ≡ false = or_false (nat_le 4294967295 k) (nat_le request_limit (k + 1)) unreached in
-    grind (arith, nat_tests, below)
+-- so fewer come than a limit which no request's own passes
+module _ (world : World) (most : ℕ) (within : (head : Head) → (settings_of world (Some head)).request_limit ≤ most) where
+  followed_below : (k : ℕ) (r : Request) → is_followed (reply world k r) ≡ true → k + 1 < most
+  followed_below k Unfinished is = absurd (false≢true is)
+  followed_below k (Refused status) is = absurd (false≢true is)
+  followed_below k (Open head) is = absurd (false≢true is)
+  followed_below k (Declined status head) is = absurd (false≢true is)
+  followed_below k (Complete head content) is =
+      let limit : ℕ = (settings_of world (Some head)).request_limit in
+      let unreached : is_reached limit k ≡ false = followed_unreached world k head content is in
+      let below : nat_le limit (k + 1) ≡ false = or_false (nat_le 4294967295 k) (nat_le limit (k + 1)) unreached in
+      above limit (within head) below
+    where
+      above : (limit : ℕ) → limit ≤ most → nat_le limit (k + 1) ≡ false → k + 1 < most
+      above limit at_most below = grind (arith, nat_tests, at_most, below)
 
-answered_below : (world : World) (j k : ℕ) (bytes before : List ℕ) → Answered world j k bytes before → (k ≡ 0) ⊎ (j + k < request_limit)
-answered_below world j zero bytes before is = inl refl
-answered_below world j (suc k) bytes before is = by k (answered_below world (j + 1) k (rest_of (limit_for world) bytes) is.1.0 is.1.2)
-  where
-    here : j + 1 < request_limit
-    here = followed_below world j (request_of (limit_for world) bytes) is.0
+  answered_below : (j k : ℕ) (bytes before : List ℕ) → Answered world j k bytes before → (k ≡ 0) ⊎ (j + k < most)
+  answered_below j zero bytes before is = inl refl
+  answered_below j (suc k) bytes before is = by k (answered_below (j + 1) k (rest_of (limit_for world) bytes) is.1.0 is.1.2)
+    where
+      here : j + 1 < most
+      here = followed_below j (request_of (limit_for world) bytes) is.0
 
-    by : (n : ℕ) → (n ≡ 0) ⊎ (j + 1 + n < request_limit) → (suc n ≡ 0) ⊎ (j + suc n < request_limit)
-    by n (inl none) = inr (omega (arith, none, here))
-    by n (inr below) = inr (omega (arith, below))
+      by : (n : ℕ) → (n ≡ 0) ⊎ (j + 1 + n < most) → (suc n ≡ 0) ⊎ (j + suc n < most)
+      by n (inl none) = inr (omega (arith, none, here))
+      by n (inr below) = inr (omega (arith, below))
 
--- so many replies come at most
-pub passed_below : (world : World) (input : List ℕ) (k : ℕ) (before : List ℕ) → Passed k (replies_to world input) before → k < request_limit
-passed_below world input k before passed = by (answered_below world 0 k input before (by_bytes world input k before passed))
-  where
-    by : (k ≡ 0) ⊎ (0 + k < request_limit) → k < request_limit
-    by (inl none) = omega (arith, none)
-    by (inr below) = omega (arith, below)
+  -- so many replies come at most
+  pub passed_below : 0 < most → (input : List ℕ) (k : ℕ) (before : List ℕ) → Passed k (replies_to world input) before → k < most
+  passed_below some input k before passed = by (answered_below 0 k input before (by_bytes world input k before passed))
+    where
+      by : (k ≡ 0) ⊎ (0 + k < most) → k < most
+      by (inl none) = omega (arith, none, some)
+      by (inr below) = omega (arith, below)

@@ -127,26 +127,26 @@ module _ (site : Site) (held : Held) (before between : Disk) (past : List Deed) 
   none_asked : Matches before.table (world_of site before held.link past) held (ours past) → Unasked (world_of site before held.link past) (number_of held.stage)
   none_asked m what = m.unasked (number_of held.stage) what (omega (arith, ap first_unasked asking))
 
-  planned_turn : CallsFor site held.link (number_of held.stage) head file before between → Matches before.table (world_of site before held.link past) held (ours past) → AskedInTurn (world_of site between held.link past) (ours past)
+  planned_turn : CallsFor site (Some (arrival_of held)) held.link (number_of held.stage) head file before between → Matches before.table (world_of site before held.link past) held (ours past) → AskedInTurn (world_of site between held.link past) (ours past)
   planned_turn calls m = matches_planned before.table between.table (world_of site before held.link past) (world_of site between held.link past) held (ours past) (number_of held.stage) (Complete head content) asking refl (calls.others (side_of past)) (calls.replies (side_of past)) (calls.plans (side_of past)) refl
       (λ h c is what. by_head before.table between.table (world_of site before held.link past) (world_of site between held.link past) held (ours past) (number_of held.stage) (Complete head content) asking refl (calls.others (side_of past)) (calls.replies (side_of past)) (calls.plans (side_of past)) head content refl
-      (λ (x : Head). call_count (world_of site between held.link past) (number_of held.stage) what ≤ calls_of (world_of site between held.link past) (number_of held.stage) x what) (calls.within (side_of past) (none_asked m) what) m h c is) m
+      (λ (x : Head). call_count (world_of site between held.link past) (number_of held.stage) what ≤ calls_of (world_of site between held.link past) (number_of held.stage) x what) (calls.within (side_of past) (came_side held.peer held.local past m.came) (none_asked m) what) m h c is) m
 
   -- its request is being planned
-  pub calls_right : CallsFor site held.link (number_of held.stage) head file before between → Matches before.table (world_of site before held.link past) held (ours past) → IsRight (world_of site between held.link past) (ours past)
+  pub calls_right : CallsFor site (Some (arrival_of held)) held.link (number_of held.stage) head file before between → Matches before.table (world_of site before held.link past) held (ours past) → IsRight (world_of site between held.link past) (ours past)
   calls_right calls m = record {
     prefix = at_prefix before.table (world_of site between held.link past) held (ours past) (Asking (number_of held.stage) (Complete head content)) (asks_other before.table between.table (world_of site before held.link past) (world_of site between held.link past) held (ours past) (number_of held.stage) (Complete head content) asking refl (calls.others (side_of past)) (calls.replies (side_of past)) (calls.plans (side_of past)) m);
     in_turn = planned_turn calls m;
   }
 
   -- what is owed of what it was told first is in memory
-  owed_stays : CallsFor site held.link (number_of held.stage) head file before between → Fits before.table held → Matches before.table (world_of site before held.link past) held (ours past) → bytes_of between.table held.owed ≡ bytes_of before.table held.owed
+  owed_stays : CallsFor site (Some (arrival_of held)) held.link (number_of held.stage) head file before between → Fits before.table held → Matches before.table (world_of site before held.link past) held (ours past) → bytes_of between.table held.owed ≡ bytes_of before.table held.owed
   owed_stays calls fits m =
       let at : IsAsking before.table (world_of site before held.link past) held (ours past) (number_of held.stage) (Complete head content) = subst (IsAt before.table (world_of site before held.link past) held (ours past)) asking m.at in
       (items_alone before.table between.table held.file held.owed (λ f is. absurd (cc (at.file, is))) fits.owed).1
 
   -- it is answered as is planned
-  pub answer_by : (o : Outcome) (items : List Item) → CallsFor site held.link (number_of held.stage) head file before between → CallsWhole site held.link (number_of held.stage) head before between → PlansTo o site (Some (arrival_of held)) held.link (number_of held.stage) head before between
+  pub answer_by : (o : Outcome) (items : List Item) → CallsFor site (Some (arrival_of held)) held.link (number_of held.stage) head file before between → CallsWhole site (Some (arrival_of held)) held.link (number_of held.stage) head before between → PlansTo o site (Some (arrival_of held)) held.link (number_of held.stage) head before between
       → bytes_of between.table items ≡ final_bytes head (is_last_request o.settings.request_limit (number_of held.stage) head) o → Fits before.table held
       → Matches before.table (world_of site before held.link past) held (ours past) → Matches between.table (world_of site between held.link past) (answered held items file (is_last_request o.settings.request_limit (number_of held.stage) head)) (ours past)
   answer_by o items calls whole plans is fits m =
@@ -155,7 +155,7 @@ module _ (site : Site) (held : Held) (before between : Disk) (past : List Deed) 
       items file (is_last_request o.settings.request_limit (number_of held.stage) head) (planned_turn calls m)
       (asked_planned before.table between.table (world_of site before held.link past) (world_of site between held.link past) held (ours past) (number_of held.stage) (Complete head content) asking refl (calls.others (side_of past)) (calls.replies (side_of past)) (calls.plans (side_of past))
       (λ h c here what. by_head before.table between.table (world_of site before held.link past) (world_of site between held.link past) held (ours past) (number_of held.stage) (Complete head content) asking refl (calls.others (side_of past)) (calls.replies (side_of past)) (calls.plans (side_of past)) head content refl
-      (λ (x : Head). call_count (world_of site between held.link past) (number_of held.stage) what ≡ calls_of (world_of site between held.link past) (number_of held.stage) x what) (whole (side_of past) (none_asked m) what) m h c here) m)
+      (λ (x : Head). call_count (world_of site between held.link past) (number_of held.stage) what ≡ calls_of (world_of site between held.link past) (number_of held.stage) x what) (whole (side_of past) (came_side held.peer held.local past m.came) (none_asked m) what) m h c here) m)
       refl (ap (λ (p : Outcome). is_last_request p.settings.request_limit (number_of held.stage) head) planned) (owed_stays calls fits m)
       (ap (λ l. continue_of (limit_for (world_of site between held.link past)) head ++ l) (is ∙ ap (λ (p : Outcome). final_bytes head (is_last_request p.settings.request_limit (number_of held.stage) head) p) (sym planned))) m
 
@@ -174,7 +174,7 @@ module _ (site : Site) (held : Held) (disk : Disk) (past : List Deed) (status : 
 
 -- memory is wanted for its plan, for which calls may have been made
 pub plan_yields : (site : Site) (held new : Held) (files : Type 0) (before after : Disk) (head : Head) (content : List ℕ) (file : Option ℕ) → held.stage ≡ Asking (number_of held.stage) (Complete head content) → new.link ≡ held.link → held.file ≡ None → new.file ≡ file
-    → (files → CallsFor site held.link (number_of held.stage) head file before after) → SettlesOut true site held new ending.NoMemory files before after
+    → (files → CallsFor site (Some (arrival_of held)) held.link (number_of held.stage) head file before after) → SettlesOut true site held new ending.NoMemory files before after
 plan_yields site held new files before after head content file asking link none new_file calls = record {
   allowed = refl;
   link = link;

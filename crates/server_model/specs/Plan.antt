@@ -2,7 +2,6 @@
 use Rattle.std.specs.Prelude.{ℕ, ◌+◌, ◌==◌, List, [], ◌∷◌, ◌++◌, Bool, true, false, ◌||◌, Some, if◌then◌else◌, bytes_eq, codes}
 use Rattle.lt_world.specs.declared.files.FileCall.{FileCall}
 use Rattle.lt_world.specs.declared.files.FileCall.TheVariants as call
-use Rattle.server_model.specs.Site.{Site}
 use Rattle.server_model.specs.World.{World, has_failed_call}
 use Rattle.server_model.specs.Settings.{Settings, settings_of}
 use Rattle.http_reply.specs.FieldLines.{FieldLines}
@@ -65,8 +64,8 @@ sought world k n [] = Nowhere
 sought world k n (place ∷ places) = sought_by (has_failed_call world k call.Find n) (world.tree place) (sought world k (n + 1) places)
 
 -- where a file is looked for: at the root and the path
-abbrev pub places_of : Site → Head → List (List ℕ)
-places_of site head = (site.root ++ head.target.path) ∷ []
+abbrev pub places_of : Settings → Head → List (List ℕ)
+places_of settings head = (settings.root ++ head.target.path) ∷ []
 
 -- by what the finds told, whether the open failed, and whether a file answers the method
 abbrev pub outcome : Settings → Sought → Bool → Bool → Outcome
@@ -78,7 +77,7 @@ outcome settings (Found bytes) false true = file_outcome settings bytes
 
 -- the plan of request k: a find at each place up to the first file, and an open of that one
 abbrev pub plan : World → ℕ → Head → Outcome
-plan world k head = outcome (settings_of world (Some head)) (sought world k 0 (places_of world.site head)) (has_failed_call world k call.Open 0) (is_served head.method)
+plan world k head = outcome (settings_of world (Some head)) (sought world k 0 (places_of (settings_of world (Some head)) head)) (has_failed_call world k call.Open 0) (is_served head.method)
 
 -- how many finds a request makes from one place on, by whether the find there failed and what stands there, and how many it makes at the other places: up to a fault or the first file
 abbrev pub finds_by : Bool → Node → ℕ → ℕ
@@ -101,6 +100,6 @@ opens_by (Found bytes) true = 1
 
 -- how many calls of each kind the plan of request k makes
 abbrev pub calls_of : World → ℕ → Head → FileCall → ℕ
-calls_of world k head call.Find = finds_at world k 0 (places_of world.site head)
-calls_of world k head call.Open = opens_by (sought world k 0 (places_of world.site head)) (is_served head.method)
+calls_of world k head call.Find = finds_at world k 0 (places_of (settings_of world (Some head)) head)
+calls_of world k head call.Open = opens_by (sought world k 0 (places_of (settings_of world (Some head)) head)) (is_served head.method)
 calls_of world k head call.Read = 0

@@ -14,17 +14,17 @@ use Rattle.server_model.specs.Files.{FileStep}
 abbrev pub Unasked : World → ℕ → Type 0
 Unasked world k = (what : FileCall) → call_count world k what ≡ 0
 
--- calls on the files were made for request k of a client alone, as its plan by this head names them or fewer, and this file was opened
-pub record CallsFor (site : Site) (client k : ℕ) (head : Head) (file : Option ℕ) (before after : Disk) : Type 0 where
+-- calls on the files were made for request k of a client that came so alone, as its plan by this head names them or fewer, and this file was opened
+pub record CallsFor (site : Site) (arrival : Option Arrival) (client k : ℕ) (head : Head) (file : Option ℕ) (before after : Disk) : Type 0 where
   pub files : FileStep client None file before after
   pub others : (side : Side) (j : ℕ) (what : FileCall) → k ≢ j → call_count (world_at site after client side) j what ≡ call_count (world_at site before client side) j what
   pub replies : (side : Side) (j : ℕ) (r : Request) → k ≢ j → reply (world_at site after client side) j r ≡ reply (world_at site before client side) j r
   pub plans : (side : Side) (j : ℕ) (other : Head) (what : FileCall) → k ≢ j → calls_of (world_at site after client side) j other what ≡ calls_of (world_at site before client side) j other what
-  pub within : (side : Side) → Unasked (world_at site before client side) k → (what : FileCall) → call_count (world_at site after client side) k what ≤ calls_of (world_at site after client side) k head what
+  pub within : (side : Side) → side.arrival ≡ arrival → Unasked (world_at site before client side) k → (what : FileCall) → call_count (world_at site after client side) k what ≤ calls_of (world_at site after client side) k head what
 
 -- just the calls that its plan names were made
-abbrev pub CallsWhole : Site → ℕ → ℕ → Head → Disk → Disk → Type 0
-CallsWhole site client k head before after = (side : Side) → Unasked (world_at site before client side) k → (what : FileCall) → call_count (world_at site after client side) k what ≡ calls_of (world_at site after client side) k head what
+abbrev pub CallsWhole : Site → Option Arrival → ℕ → ℕ → Head → Disk → Disk → Type 0
+CallsWhole site arrival client k head before after = (side : Side) → side.arrival ≡ arrival → Unasked (world_at site before client side) k → (what : FileCall) → call_count (world_at site after client side) k what ≡ calls_of (world_at site after client side) k head what
 
 -- the first plan of request k of a client that came so, by its head
 abbrev pub PlansTo : Outcome → Site → Option Arrival → ℕ → ℕ → Head → Disk → Disk → Type 0
@@ -33,14 +33,14 @@ PlansTo o site arrival client k head before after = (side : Side) → side.arriv
 
 -- an error is planned, and no file is opened
 pub record PlansError (status : ℕ) (site : Site) (arrival : Option Arrival) (client k : ℕ) (head : Head) (before after : Disk) : Type 0 where
-  pub calls : CallsFor site client k head None before after
-  pub whole : CallsWhole site client k head before after
+  pub calls : CallsFor site arrival client k head None before after
+  pub whole : CallsWhole site arrival client k head before after
   pub plans : PlansTo (error_outcome (settings_at site arrival (Some head)) status) site arrival client k head before after
 
 -- the bytes of this opened file are planned
 pub record PlansFile (file size : ℕ) (site : Site) (arrival : Option Arrival) (client k : ℕ) (head : Head) (before after : Disk) : Type 0 where
-  pub calls : CallsFor site client k head (Some file) before after
-  pub whole : CallsWhole site client k head before after
+  pub calls : CallsFor site arrival client k head (Some file) before after
+  pub whole : CallsWhole site arrival client k head before after
   pub bytes : List ℕ
   pub opened : after.table file ≡ Some bytes
   pub has_size : length bytes ≡ size

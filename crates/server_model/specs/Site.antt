@@ -1,10 +1,11 @@
 -- What a server serves.
-use Rattle.std.specs.Prelude.{ℕ, List}
+use Rattle.std.specs.Prelude.{List}
+use Rattle.conf_value.specs.declared.block.Block.{Block}
 
 pub record Site : Type 0 where
-  -- the document root, without a / at its end
-  pub root : List ℕ
+  -- the blocks of the configuration, the global one first
+  pub blocks : List Block
 
--- the files below a document root
-abbrev pub site_at : List ℕ → Site
-site_at root = record { root = root }
+-- what a configuration of these blocks says
+abbrev pub site_at : List Block → Site
+site_at blocks = record { blocks = blocks }

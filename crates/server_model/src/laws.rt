@@ -1,5 +1,5 @@
 //! The laws on the definitions: each function does nothing, and its clauses are theorems.
-ghost use Rattle.std.specs.Prelude.{◌≡◌, ◌≢◌, ◌⊎◌, ℕ, ◌+◌, ◌-◌, ◌^◌, ◌<◌, ◌≤◌, ◌||◌, List, [], ◌∷◌, ◌++◌, length, take, drop, codes, Bool, true, false, Some, None, Err};
+ghost use Rattle.std.specs.Prelude.{◌≡◌, ◌≢◌, ◌⊎◌, ℕ, ◌+◌, ◌-◌, ◌^◌, ◌<◌, ◌≤◌, ◌||◌, List, [], ◌∷◌, ◌++◌, length, take, drop, codes, Bool, true, false, Option, Some, None, Err};
 ghost use Rattle.lt_world.specs.Acts.{ending_of, deeds_of};
 ghost use Rattle.lt_world.specs.declared.files.FileCall.{FileCall};
 ghost use Rattle.lt_world.specs.declared.net.Address.{Address};
@@ -17,8 +17,9 @@ ghost use Rattle.lt_http_body.specs.declared.body.BodyRefusal.TheVariants as ref
 ghost use Rattle.lt_http_body.specs.Standings.{answer_from};
 ghost use Rattle.server_model.specs.Site.{Site};
 ghost use Rattle.server_model.specs.Request.{Head, Request, Complete, Open, Declined, Refused, HasHead, front_of, headed, request_of, rest_of, is_complete, Limits};
-ghost use Rattle.server_model.specs.World.{World, is_arrival, world_of, with_call};
-ghost use Rattle.server_model.specs.Settings.{request_limit, body_limit, settings_of, limit_for, is_reached};
+ghost use Rattle.settings.specs.Used.{values_of};
+ghost use Rattle.server_model.specs.World.{World, Arrival, is_arrival, world_of, with_call};
+ghost use Rattle.server_model.specs.Settings.{settings_at, settings_of, settings_from, truths_at, limit_for, is_reached};
 ghost use Rattle.server_model.specs.Reply.{Reply, reply, is_accepted, continue_of};
 ghost use Rattle.server_model.specs.Stream.{IsPrefix, is_followed, joined, Passed, left_after, replies_to, stream_of};
 ghost use Rattle.server_model.specs.Deeds.{Deed, Ours, own, ours, told, deeds_in, AreDeeds};
@@ -133,6 +134,16 @@ pub fn replies_in_order()
     ensures only { (world : World) (input a b : List ℕ) (k : ℕ) → Passed k (replies_to world input) a → Passed k (replies_to world input) b → a ≡ b }
 {}
 
+/// What holds for a request beside its plan.
+pub fn settings_are_values()
+    // The values of the configuration's keys, by the truths of its blocks.
+    ensures values { (site : Site) (arrival : Option Arrival) (head : Option Head) → settings_at site arrival head ≡ settings_from (values_of site.blocks (truths_at site arrival head)) }
+
+    // Whatever is configured, a connection may send one request at least, and a body has a limit from 1 KiB to 4 MiB.
+    ensures requests { (site : Site) (arrival : Option Arrival) (head : Option Head) → 1 ≤ (settings_at site arrival head).request_limit }
+    ensures body { (site : Site) (arrival : Option Arrival) (head : Option Head) → (1024 ≤ (settings_at site arrival head).body_limit) × ((settings_at site arrival head).body_limit ≤ 4194304) }
+{}
+
 /// Which reply is the last of its connection.
 pub fn connections_end()
     // The reply to a request is the last exactly where its head closes the connection, or no further request may come by its settings.
@@ -144,8 +155,8 @@ pub fn connections_end()
     ensures unreached { (world : World) (input before : List ℕ) (k j : ℕ) (head : Head) (content : List ℕ) → Passed k (replies_to world input) before → j < k
         → request_of (limit_for world) (left_after (limit_for world) j input) ≡ Complete head content → is_reached (settings_of world (Some head)).request_limit j ≡ false }
 
-    // So no more come than the limit, which is the same for all requests so far.
-    ensures limit { (world : World) (input before : List ℕ) (k : ℕ) → Passed k (replies_to world input) before → k < request_limit }
+    // So fewer replies are followed than the greatest limit of a request.
+    ensures limit { (world : World) (input before : List ℕ) (k most : ℕ) → 0 < most → ((head : Head) → (settings_of world (Some head)).request_limit ≤ most) → Passed k (replies_to world input) before → k < most }
 {}
 
 /// No more clients are open at once than the limit, in a run that began with no more.
@@ -170,10 +181,8 @@ pub fn stream_stays()
     ensures planned { (world : World) (what : FileCall) (k : ℕ) (failed : Bool) (input output : List ℕ) → Passed k (replies_to world input) output → IsPrefix output (stream_of (with_call what k failed world) input) }
 {}
 
-/// The limits as numbers. A configuration may set other requests and bytes of a body.
+/// The limits as numbers.
 pub fn the_limits_are_numbers()
-    ensures requests { request_limit ≡ 100 }
-    ensures body { body_limit ≡ 1048576 }
     ensures clients { connection_limit ≡ 256 }
     ensures input { input_limit ≡ 65536 }
     ensures offer { offer_limit ≡ 4096 }

@@ -10,5 +10,5 @@ mod laws;
 
 pub use laws::{
     bodies_end, client_alone, clients_continue, clients_limited, connections_end, replies_in_order,
-    requests_stay, runs_grow, served_right, starts, stream_stays, worlds_stay,
+    requests_stay, runs_grow, served_right, settings_are_values, starts, stream_stays, worlds_stay,
 };

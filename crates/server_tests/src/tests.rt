@@ -2,7 +2,8 @@
 ghost use Rattle.server_model.specs.Files.{IsTable, Backs};
 
 use crate::failing::Failing;
-use lt_bytes::{NoMemory, Text};
+use conf_value::{Block, Config};
+use lt_bytes::{List, NoMemory, Text};
 use lt_script::parse_script;
 use lt_world::{Ending, FileCall, Files, MemFiles, MemSink, Net};
 use script_net::{ScriptNet, report};
@@ -12,7 +13,7 @@ use std::process::Abort;
 use std::test::Fail;
 
 // Takes turns until the net is over.
-fn run<N: Net, F: Files>(server: &mut Server, net: &mut N, files: &mut F)
+fn run<N: Net, F: Files>(server: &mut Server<'_>, net: &mut N, files: &mut F)
     requires table { IsTable (N.links net.old) server.old.table }
     requires backs { F.tells → Backs (F.disk files.old).table server.old.table }
     ensures backs { F.tells → Backs (F.disk files.new).table server.new.table }
@@ -27,10 +28,25 @@ fn run<N: Net, F: Files>(server: &mut Server, net: &mut N, files: &mut F)
     }
 }
 
-// Serves the files below /srv to a net, and ends.
+// The configuration that sets nothing: a file is served at its path.
+fn plain(alloc: Global) -> Result<Config, NoMemory> {
+    let mut blocks = List::new(alloc);
+    blocks.push(Block {
+        parent: 0,
+        chain: None,
+        condition: None,
+        settings: List::new(alloc),
+    })?;
+    Ok(Config {
+        blocks,
+        warnings: List::new(alloc),
+    })
+}
+
+// Serves every file to a net, and ends.
 fn serve<N: Net, F: Files>(alloc: Global, net: &mut N, files: &mut F) -> Result<(), NoMemory> {
-    let root = Text::from_bytes(alloc, b"/srv")?;
-    let mut server = Server::new(alloc, root)?;
+    let config = plain(alloc)?;
+    let mut server = Server::new(alloc, &config)?;
     run(&mut server, net, files);
     server.close(files);
     Ok(())

@@ -41,7 +41,7 @@ returns-in-Refused-clause-settles g c =
     let is = sym c.requires.stage ∙ c.in-Refused.is in
     let asks = refused_asks c.args.conn.now.held c.in-Refused.status is in
     goes_answers (is_asking c.args.conn.now.held.stage) (served c.args.site.now) c.args.conn.now.held g.F.Files.tells (g.F.Files.disk c.args.files.now) c.refuse.new.conn.held (g.F.Files.disk c.args.files.now) c.refuse.result asks
-    (settles_refused (served c.args.site.now) c.args.conn.now.held g.F.Files.tells (g.F.Files.disk c.args.files.now) (step_none c.args.conn.now.held c.requires.advanced asks) c.requires.fits c.in-Refused.status c.settings_for-settings.result.tag.now c.of_refused-form.result c.refuse.new.conn.held c.refuse.result
+    (settles_refused (served c.args.site.now) c.args.conn.now.held g.F.Files.tells (g.F.Files.disk c.args.files.now) (step_none c.args.conn.now.held c.requires.advanced asks) c.requires.fits c.in-Refused.status c.settings_for-settings.result.server_tag.now c.of_refused-form.result c.refuse.new.conn.held c.refuse.result
     (refused_head c.args.conn.now.held c.in-Refused.status is)
     c.settings_for-settings.ensures.tag
     (c.of_refused-form.ensures.form ∙ ap refused_form c.request.ensures.request) c.refuse.ensures.given)

@@ -12,7 +12,7 @@ pub returns-clause-refused : goal.returns-clause-refused
 returns-clause-refused c world k status = refl
 
 pub returns-clause-limit : goal.returns-clause-limit
-returns-clause-limit c world input before k = passed_below world input k before
+returns-clause-limit c world input before k most some within = passed_below world most within some input k before
 
 pub returns-clause-unreached : goal.returns-clause-unreached
 returns-clause-unreached c = passed_unreached
