@@ -7,7 +7,7 @@ use Rattle.lt_world.specs.Trace.{Entry}
 use Rattle.lt_script.specs.declared.script.Script.{Script}
 use Rattle.script_net.specs.Loads.{planted}
 use Rattle.script_net.specs.Plays.{Plays}
-use Rattle.server_model.specs.Site.{site_at}
+use Rattle.lt_commands.specs.Rooted.{site_below}
 use Rattle.lt_commands.specs.declared.status.Status.{Status}
 use Rattle.lt_commands.specs.declared.status.Status.TheVariants as status
 use Rattle.lt_commands.specs.Endings.{AllEndCalmly}
@@ -29,7 +29,7 @@ none_closed link e is = absurd (cc is)
 -- where nothing was run, any root and any script will do, if none was to be played
 pub unrun : (root : List ℕ) (said : Script) (answer : Status) (left : Asked) (trace : List Entry) → left ≡ asked_of no_files → trace ≡ [] → (answer ≡ status.Done → Plays said.steps trace []) → ServesBy root said answer left trace
 unrun root said answer left trace uncalled untold plays = record {
-  served = unserved (site_at root) (planted said.files (tree_of no_files)) left trace uncalled untold;
+  served = unserved (site_below root) (planted said.files (tree_of no_files)) left trace uncalled untold;
   calm = λ calm. subst AllEndCalmly (sym untold) none_closed;
   plays = plays;
 }

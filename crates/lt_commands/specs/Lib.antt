@@ -9,3 +9,4 @@ pub mod Root
 pub mod Runs
 pub mod Serving
 pub mod Words
+pub mod Rooted

@@ -9,7 +9,7 @@ use Rattle.script_net.specs.Failing.{IsCalm}
 use Rattle.script_net.specs.Loads.{planted}
 use Rattle.script_net.specs.Plays.{Plays}
 use Rattle.script_net.specs.Reports.{report_of}
-use Rattle.server_model.specs.Site.{site_at}
+use Rattle.lt_commands.specs.Rooted.{site_below}
 use Rattle.lt_commands.specs.declared.status.Status.{Status}
 use Rattle.lt_commands.specs.declared.status.Status.TheVariants as status
 use Rattle.lt_commands.specs.Endings.{AllEndCalmly}
@@ -22,7 +22,7 @@ use Rattle.lt_commands.specs.Words.{Replay, SpellsLine}
 -- line of the script makes a read or a write fail, each client that was closed was closed calmly; and a call that was
 -- done has played the script to its end
 pub record ServesBy (root : List ℕ) (said : Script) (answer : Status) (left : Asked) (trace : List Entry) : Type 0 where
-  pub served : Served (site_at root) (planted said.files (tree_of no_files)) left trace
+  pub served : Served (site_below root) (planted said.files (tree_of no_files)) left trace
   pub calm : IsCalm said.steps → AllEndCalmly trace
   pub plays : answer ≡ status.Done → Plays said.steps trace []
 

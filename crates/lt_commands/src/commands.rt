@@ -28,6 +28,7 @@ ghost use Rattle.lt_commands.specs.Serving.{ServesBy, ServesSome};
 
 use crate::printing::read_tree;
 use crate::reading::{read_conf, read_script};
+use crate::rooted::rooted;
 use crate::run::{Finish, run};
 use crate::status::Status;
 use crate::words::{Call, read_words};
@@ -129,20 +130,23 @@ fn replay<X: Texts, S: Sink>(
     if net.load(&script, files).is_err() {
         return Status::NoMemory;
     }
-    match Server::new(alloc, root) {
+    let Ok(config) = rooted(alloc, root) else {
+        return Status::NoMemory;
+    };
+    match Server::new(alloc, &config) {
         Ok(server) => play(server, net, files, sink),
         Err(_) => Status::NoMemory,
     }
 }
 
 // Serves the clients of a script that was loaded, and reports what they took.
-fn play<S: Sink>(server: Server, net: &mut ScriptNet, files: &mut MemFiles, sink: &mut S) -> Status
+fn play<S: Sink>(server: Server<'_>, net: &mut ScriptNet, files: &mut MemFiles, sink: &mut S) -> Status
     requires fresh { files.old ≡ record no_files { places = files.old.places } }
     requires begins { net.old.game.trace ≡ [] }
-    requires table { (links : ℕ) → IsTable links server.table }
-    requires backs { (disk : Disk) → Backs disk.table server.table }
-    requires serves { (disk : Disk) → disk.calls ≡ [] → ((file : ℕ) → disk.table file ≡ None) → Serves disk (serving_at server) [] }
-    ensures serves { Served server.site (tree_of files.old) (asked_of files.new) net.new.game.trace }
+    requires table { (links : ℕ) → IsTable links server.entry.table }
+    requires backs { (disk : Disk) → Backs disk.table server.entry.table }
+    requires serves { (disk : Disk) → disk.calls ≡ [] → ((file : ℕ) → disk.table file ≡ None) → Serves disk (serving_at server.entry) [] }
+    ensures serves { Served server.entry.site (tree_of files.old) (asked_of files.new) net.new.game.trace }
     ensures ends { PlaySays result net.new.last }
     ensures calm { (steps : List Step) → net.old ≡ unplayed steps → IsCalm steps → AllEndCalmly net.new.game.trace }
     ensures plays { (steps : List Step) → net.old ≡ unplayed steps → result ≡ Status.Done → Plays steps net.new.game.trace [] }
@@ -159,13 +163,13 @@ fn play<S: Sink>(server: Server, net: &mut ScriptNet, files: &mut MemFiles, sink
 }
 
 // Takes turns until the net is over, and ends the server.
-fn serve(server: Server, net: &mut ScriptNet, files: &mut MemFiles) -> Finish
+fn serve(server: Server<'_>, net: &mut ScriptNet, files: &mut MemFiles) -> Finish
     requires fresh { files.old ≡ record no_files { places = files.old.places } }
     requires begins { net.old.game.trace ≡ [] }
-    requires table { (links : ℕ) → IsTable links server.table }
-    requires backs { (disk : Disk) → Backs disk.table server.table }
-    requires serves { (disk : Disk) → disk.calls ≡ [] → ((file : ℕ) → disk.table file ≡ None) → Serves disk (serving_at server) [] }
-    ensures serves { Served server.site (tree_of files.old) (asked_of files.new) net.new.game.trace }
+    requires table { (links : ℕ) → IsTable links server.entry.table }
+    requires backs { (disk : Disk) → Backs disk.table server.entry.table }
+    requires serves { (disk : Disk) → disk.calls ≡ [] → ((file : ℕ) → disk.table file ≡ None) → Serves disk (serving_at server.entry) [] }
+    ensures serves { Served server.entry.site (tree_of files.old) (asked_of files.new) net.new.game.trace }
     ensures last { FinishFits result net.new.last }
     ensures over { result ≡ Finish.Over → events_left net.new.game.left ≡ 0 }
     ensures later { IsLater net.old net.new }

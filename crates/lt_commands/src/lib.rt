@@ -11,6 +11,7 @@ mod commands;
 mod printing;
 mod reading;
 mod root;
+mod rooted;
 mod run;
 mod status;
 mod words;

@@ -17,7 +17,7 @@ pub enum Finish {
 }
 
 /// Takes turns until the net is over, or has no memory for its next event.
-pub fn run<N: Net, F: Files>(server: &mut Server, net: &mut N, files: &mut F) -> Finish
+pub fn run<N: Net, F: Files>(server: &mut Server<'_>, net: &mut N, files: &mut F) -> Finish
     requires ends { N.ends }
     requires table { IsTable (N.links net.old) server.old.table }
     requires backs { F.tells → Backs (F.disk files.old).table server.old.table }

@@ -47,7 +47,7 @@ module _ (arrival : Option Arrival) (site : Site) (head : Head) (place : List �
       (subst (PlansError 500 site arrival owner.conn owner.request head before) (sym after_now) (plans_open_failed site owner.conn owner.request head owner refl refl before arrival bytes time (there (File bytes time) n) served))
   planned_file (planned.File file size) after bytes time n served o = opens_file file.0 size o.0 found after served is o.1
   planned_file planned.NoMemory after bytes time n served o =
-      subst (CallsFor site owner.conn owner.request head None before) (sym (o ∙ is)) (calls_find site owner.conn owner.request head owner refl refl before false)
+      subst (CallsFor site arrival owner.conn owner.request head None before) (sym (o ∙ is)) (calls_find site owner.conn owner.request head owner refl refl before arrival false)
 
 pub planned_failed : (arrival : Option Arrival) (site : Site) (head : Head) (owner : Owner) (before found : Disk) → found ≡ asked call.Find owner true before → PlansError 500 site arrival owner.conn owner.request head before found
 planned_failed arrival site head owner before found is = subst (PlansError 500 site arrival owner.conn owner.request head before) (sym is) (plans_find_failed site owner.conn owner.request head owner refl refl before arrival)

@@ -98,8 +98,8 @@ module _ (site : Site) (held : Held) (tells : Type 0) (before after : Disk) (hea
 
   -- it is answered as is planned
   answers_on : (items : List Item) (file : Option ℕ) (new : Held) → new ≡ answered held items file last → has_no_items items ≡ false
-      → (tells → CallsFor site held.link (number_of held.stage) head file before after)
-      → (tells → CallsWhole site held.link (number_of held.stage) head before after)
+      → (tells → CallsFor site (Some (arrival_of held)) held.link (number_of held.stage) head file before after)
+      → (tells → CallsWhole site (Some (arrival_of held)) held.link (number_of held.stage) head before after)
       → (tells → (o : Outcome) × (is_last_request o.settings.request_limit (number_of held.stage) head ≡ last) × PlansTo o site (Some (arrival_of held)) held.link (number_of held.stage) head before after × (bytes_of after.table items ≡ final_bytes head last o))
       → (tells → IsOpened after.table file) → (tells → AllFit after.table file items) → SettlesOn site held new tells before after
   answers_on items file new is some calls whole plans opened fit = gives_on site held tells before after none here items file last new is some (λ f. (calls f).files) opened fit
@@ -109,7 +109,7 @@ module _ (site : Site) (held : Held) (tells : Type 0) (before after : Disk) (hea
       (answer_by site held before after past head content file asking p.0 items (calls f) (whole f) p.2 (p.3 ∙ ap (λ (l : Bool). final_bytes head l p.0) (sym p.1)) (here f) m))
 
   gone : (file : Option ℕ) (new : Held) (e : Ending) → (e ≡ ending.NoMemory) × (new ≡ holding held file)
-      → (tells → CallsFor site held.link (number_of held.stage) head file before after) → SettlesTo true site held new (Some e) tells before after
+      → (tells → CallsFor site (Some (arrival_of held)) held.link (number_of held.stage) head file before after) → SettlesTo true site held new (Some e) tells before after
   gone file new e is calls = subst (λ (x : Ending). SettlesTo true site held new (Some x) tells before after) (sym is.0)
       (plan_yields site held new tells before after head content file asking (ap (λ (h : Held). h.link) is.1) none (ap (λ (h : Held). h.file) is.1) calls)
 
@@ -149,8 +149,8 @@ module _ (site : Site) (held : Held) (tells : Type 0) (before after : Disk) (hea
   pub settles_bare : (file size : ℕ) (between : Disk) (new : Held) (result : Option Ending) (none_is : Bool) → (is_head head.method || none_is) ≡ true → (none_is ≡ true → size ≡ 0) → GivenBy result held new (map Byte (file_at settings.tag head.minor size last)) None last
       → (tells → PlansFile file size site (Some (arrival_of held)) held.link (number_of held.stage) head before between) → (tells → after ≡ released file between) → SettlesTo true site held new result tells before after
   settles_bare file size between new None none_is bare nothing is plans same = answers_on (map Byte (file_at settings.tag head.minor size last)) None new is (head_some settings.tag head.minor size last)
-      (λ f. release_calls site held.link (number_of held.stage) head file before between after (same f) (plans f).calls)
-      (λ f. release_whole site held.link (number_of held.stage) head file before between after (same f) (plans f).whole)
+      (λ f. release_calls site held.link (number_of held.stage) head file before between after (same f) (Some (arrival_of held)) (plans f).calls)
+      (λ f. release_whole site held.link (number_of held.stage) head file before between after (same f) (Some (arrival_of held)) (plans f).whole)
       (λ f. let p = plans f in (
         file_outcome settings p.bytes,
         refl,
@@ -159,12 +159,12 @@ module _ (site : Site) (held : Held) (tells : Type 0) (before after : Disk) (hea
             ∙ bare_reply (is_head head.method) none_is p.bytes bare (λ e. p.has_size ∙ nothing e) refl,
       ))
       (λ f. tt) (λ f. all_memory after.table None (file_at settings.tag head.minor size last))
-  settles_bare file size between new (Some e) none_is bare nothing is plans same = gone None new e is (λ f. release_calls site held.link (number_of held.stage) head file before between after (same f) (plans f).calls)
+  settles_bare file size between new (Some e) none_is bare nothing is plans same = gone None new e is (λ f. release_calls site held.link (number_of held.stage) head file before between after (same f) (Some (arrival_of held)) (plans f).calls)
 
   -- memory is wanted for its reply, and its file was given back
   pub settles_released : (file size : ℕ) (between : Disk) → (tells → PlansFile file size site (Some (arrival_of held)) held.link (number_of held.stage) head before between) → (tells → after ≡ released file between)
       → SettlesTo true site held held (Some ending.NoMemory) tells before after
-  settles_released file size between plans same = plan_yields site held held tells before after head content None asking refl none none (λ f. release_calls site held.link (number_of held.stage) head file before between after (same f) (plans f).calls)
+  settles_released file size between plans same = plan_yields site held held tells before after head content None asking refl none none (λ f. release_calls site held.link (number_of held.stage) head file before between after (same f) (Some (arrival_of held)) (plans f).calls)
 
   -- memory is wanted for the plan itself
   pub settles_unplanned : (tells → Plans planned.NoMemory site (Some (arrival_of held)) held.link (number_of held.stage) head before after) → SettlesTo true site held held (Some ending.NoMemory) tells before after

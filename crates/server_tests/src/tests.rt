@@ -54,7 +54,7 @@ fn serve<N: Net, F: Files>(alloc: Global, net: &mut N, files: &mut F) -> Result<
 
 // Two requests and the turns in which they are answered.
 const SCRIPT: &[u8] = b"lighttpd-script 1
-file \"/srv/a.txt\" 7 \"hello\\n\"
+file \"/a.txt\" 7 \"hello\\n\"
 accept 10.0.0.5:40000 127.0.0.1:80
 data c0 \"GET /a.txt HTTP/1.1\\r\\nHost: x\\r\\n\\r\\nGET /e HTTP/1.1\\r\\nHost: x\\r\\n\\r\\n\"
 take c0 65536 2

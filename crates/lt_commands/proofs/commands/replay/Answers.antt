@@ -14,6 +14,7 @@ use Rattle.lt_commands.proofs.ServingLemmas.{no_script, unrun, undone, served_fo
 use Rattle.lt_commands.proofs.AskingLemmas.{conf_asks, script_asks, both_asked, play_asks}
 use Rattle.lt_commands.specs.Runs.{asked_of}
 use Rattle.lt_commands.proofs.commands.replay.Goals as goal
+use Rattle.lt_commands.specs.Rooted.{site_below}
 use Rattle.server_model.specs.Site.{site_at}
 
 pub returns-in-Ok-new-clause-texts : goal.returns-in-Ok-new-clause-texts
@@ -94,14 +95,31 @@ returns-clause-spelled g c told root said rooted held =
     unrun root said status.NoMemory _ _ (ap asked_of c.load.ensures.rest ∙ ap asked_of c.requires.files) (ap (λ (p : Playing). p.game.trace) loaded)
     (λ done. absurd (cc done))
 
+pub returns-in_default-clause-serves : goal.returns-in_default-clause-serves
+returns-in_default-clause-serves g c =
+    let loaded : c.load.new.self ≡ unplayed c.in-Ok-read_script.script.steps = search rules in (
+      [],
+      (
+        no_script,
+        unrun [] no_script status.NoMemory _ _ (ap asked_of c.load.ensures.rest ∙ ap asked_of c.requires.files) (ap (λ (p : Playing). p.game.trace) loaded)
+            (λ done. absurd (cc done)),
+      ),
+    )
+
+pub returns-in_default-clause-spelled : goal.returns-in_default-clause-spelled
+returns-in_default-clause-spelled g c told root said rooted held =
+    let loaded : c.load.new.self ≡ unplayed c.in-Ok-read_script.script.steps = search rules in
+    unrun root said status.NoMemory _ _ (ap asked_of c.load.ensures.rest ∙ ap asked_of c.requires.files) (ap (λ (p : Playing). p.game.trace) loaded)
+    (λ done. absurd (cc done))
+
 pub returns-in-Ok-new-clause-serves : goal.returns-in-Ok-new-clause-serves
 returns-in-Ok-new-clause-serves g c =
     let loaded : c.load.new.self ≡ unplayed c.in-Ok-read_script.script.steps = search rules in
     let grown : tree_of c.load.new.files ≡ planted c.in-Ok-read_script.script.files (tree_of c.args.files.now) = search rules in
     let tree_is : tree_of c.load.new.files ≡ planted c.in-Ok-read_script.script.files (tree_of no_files) =
     grown ∙ ap (λ (s : Stored). planted c.in-Ok-read_script.script.files (tree_of s)) c.requires.files in
-    let served = served_as c.in-Ok-new.server.site (site_at c.in-Ok.root) (tree_of c.load.new.files) (planted c.in-Ok-read_script.script.files (tree_of no_files)) (asked_of c.play.new.files) c.play.new.net.game.trace
-    c.play.ensures.serves c.in-Ok-new.ensures.site tree_is in
+    let served = served_as c.in-Ok-new.server.site (site_below c.in-Ok.root) (tree_of c.load.new.files) (planted c.in-Ok-read_script.script.files (tree_of no_files)) (asked_of c.play.new.files) c.play.new.net.game.trace
+    c.play.ensures.serves (c.in-Ok-new.ensures.site ∙ ap site_at c.in-Ok-rooted.ensures) tree_is in
     let by : ServesBy c.in-Ok.root c.in-Ok-read_script.script c.play.result (asked_of c.play.new.files) c.play.new.net.game.trace = record {
       served = served;
       calm = c.play.ensures.calm c.in-Ok-read_script.script.steps loaded;
@@ -117,8 +135,8 @@ returns-in-Ok-new-clause-spelled g c told root said rooted held =
     let grown : tree_of c.load.new.files ≡ planted c.in-Ok-read_script.script.files (tree_of c.args.files.now) = search rules in
     let tree_is : tree_of c.load.new.files ≡ planted c.in-Ok-read_script.script.files (tree_of no_files) =
     grown ∙ ap (λ (s : Stored). planted c.in-Ok-read_script.script.files (tree_of s)) c.requires.files in
-    let served = served_as c.in-Ok-new.server.site (site_at c.in-Ok.root) (tree_of c.load.new.files) (planted c.in-Ok-read_script.script.files (tree_of no_files)) (asked_of c.play.new.files) c.play.new.net.game.trace
-    c.play.ensures.serves c.in-Ok-new.ensures.site tree_is in
+    let served = served_as c.in-Ok-new.server.site (site_below c.in-Ok.root) (tree_of c.load.new.files) (planted c.in-Ok-read_script.script.files (tree_of no_files)) (asked_of c.play.new.files) c.play.new.net.game.trace
+    c.play.ensures.serves (c.in-Ok-new.ensures.site ∙ ap site_at c.in-Ok-rooted.ensures) tree_is in
     let by : ServesBy c.in-Ok.root c.in-Ok-read_script.script c.play.result (asked_of c.play.new.files) c.play.new.net.game.trace = record {
       served = served;
       calm = c.play.ensures.calm c.in-Ok-read_script.script.steps loaded;
@@ -147,3 +165,7 @@ pub returns-in-Ok-new-clause-asks : goal.returns-in-Ok-new-clause-asks
 returns-in-Ok-new-clause-asks g c told =
     play_asks c.play.result _ c.args.conf.now c.args.script.now (g.X.Texts.texts c.args.texts.now) _ _ c.play.ensures.ends
     (both_asked fetch.Text c.args.conf.now c.args.script.now (g.X.Texts.texts c.args.texts.now) _ _ _ (c.in-Ok.root, c.in-Ok.ensures.says told) (c.in-Ok.ensures.asks told) (c.in-Ok-read_script.ensures.asks told))
+
+pub returns-in_default-clause-asks : goal.returns-in_default-clause-asks
+returns-in_default-clause-asks g c told =
+    inr (inr (both_asked fetch.Text c.args.conf.now c.args.script.now (g.X.Texts.texts c.args.texts.now) _ _ _ (c.in-Ok.root, c.in-Ok.ensures.says told) (c.in-Ok.ensures.asks told) (c.in-Ok-read_script.ensures.asks told)))
