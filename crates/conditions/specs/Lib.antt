@@ -4,7 +4,6 @@ pub mod Fields
 pub mod Groups
 pub mod Kept
 pub mod Made
-
 pub mod Marked
 pub mod Networks
 pub mod Template

@@ -84,12 +84,7 @@ impl<'p> Matchers<'p> {
 
     /// Whether the pattern of a rule matches somewhere in a text. The groups become those of its leftmost match, or
     /// empty ones where there is none.
-    pub fn find(
-        &mut self,
-        pattern: u32,
-        text: &[u8],
-        groups: &mut Groups,
-    ) -> Result<bool, NoMemory>
+    pub fn find(&mut self, pattern: u32, text: &[u8], groups: &mut Groups) -> Result<bool, NoMemory>
         requires { IsRule self.old pattern }
         ensures found { (source : List ℕ) → slice_get self.old pattern ≡ Some (source, true)
             → IfOk result (λ found. found ≡ matches source text.now) }

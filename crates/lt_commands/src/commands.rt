@@ -140,7 +140,12 @@ fn replay<X: Texts, S: Sink>(
 }
 
 // Serves the clients of a script that was loaded, and reports what they took.
-fn play<S: Sink>(server: Server<'_>, net: &mut ScriptNet, files: &mut MemFiles, sink: &mut S) -> Status
+fn play<S: Sink>(
+    server: Server<'_>,
+    net: &mut ScriptNet,
+    files: &mut MemFiles,
+    sink: &mut S,
+) -> Status
     requires fresh { files.old ≡ record no_files { places = files.old.places } }
     requires begins { net.old.game.trace ≡ [] }
     requires table { (links : ℕ) → IsTable links server.entry.table }

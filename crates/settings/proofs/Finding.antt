@@ -13,8 +13,8 @@ use Rattle.settings.specs.declared.key.Key.TheVariants.{DocumentRoot, Port, Bind
 use Rattle.settings.specs.declared.key.TheConstants.{KEYS}
 use Rattle.settings.specs.declared.places.Place.{Place}
 use Rattle.settings.specs.Keys.{is_global, name, row}
-use Rattle.settings.specs.Winning.{is_of, setting_of, set_by, or_else, winner, blocks_of, counting}
-use Rattle.settings.specs.Indexed.{place_of, places_of, with_place, places_from, in_block, where_true, set_at, winner_at}
+use Rattle.settings.specs.Winning.{is_of, setting_of, set_by, or_else, winner, counting}
+use Rattle.settings.specs.Indexed.{place_of, places_of, with_place, places_from, in_block, where_true, winner_at}
 
 -- the setting at a place that may not be there
 abbrev found : List Setting → Option ℕ → Option Setting
@@ -69,7 +69,7 @@ winner_from key number all (block ∷ blocks) all_truths (truth ∷ truths) same
     gives key number block all truth all_truths (places_from key (number + 1) blocks)
     (ap (slice_get all) (sym (add-zero number)) ∙ same 0 (omega arith)) (ap (slice_get all_truths) (sym (add-zero number)) ∙ right 0)
     ∙ ap (λ o. or_else o (set_by key block truth))
-      (winner_from key (number + 1) all blocks all_truths truths (λ k low. ap (slice_get all) (omega arith) ∙ same (suc k) (omega (arith, low))) (λ k. ap (slice_get all_truths) (omega arith) ∙ right (suc k)) (omega (arith, few)))
+    (winner_from key (number + 1) all blocks all_truths truths (λ k low. ap (slice_get all) (omega arith) ∙ same (suc k) (omega (arith, low))) (λ k. ap (slice_get all_truths) (omega arith) ∙ right (suc k)) (omega (arith, few)))
 
 -- the places of some of the first blocks give their winner
 pub winner_by : (key : List ℕ) (all blocks : List Block) (truths : List Truth) → ((k : ℕ) → k < length blocks → slice_get all k ≡ slice_get blocks k) → length blocks ≤ length truths

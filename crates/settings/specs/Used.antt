@@ -1,5 +1,5 @@
 -- The values that count for a list of truths, one a block: each typed key after its rule, or its default.
-use Rattle.std.specs.Prelude.{ℕ, ◌-◌, ◌*◌, ℤ, pos, negsuc, Bool, ◌||◌, ◌==◌, nat_eq, nat_lt, List, [], ◌∷◌, length, take, Option, None, Some, codes, if◌then◌else◌}
+use Rattle.std.specs.Prelude.{ℕ, ◌-◌, ◌*◌, ℤ, pos, negsuc, ◌||◌, ◌==◌, nat_eq, nat_lt, List, [], ◌∷◌, length, take, Option, None, Some, codes, if◌then◌else◌}
 use Rattle.std.specs.List.{ends_with}
 use Rattle.std.specs.Option.{unwrap_or}
 use Rattle.conf_value.specs.declared.block.Setting.{Setting}
@@ -94,7 +94,7 @@ values_by setting = record {
   server_max_keep_alive_requests = one_or_more (number_or 100 (setting MaxKeepAliveRequests));
   index_file_names = pairs_or_none (setting IndexFileNames);
   mimetype_assign = pairs_or_none (setting MimetypeAssign);
-  static_file_exclude_extensions = pairs_or_none (setting ExcludeExtensions)
+  static_file_exclude_extensions = pairs_or_none (setting ExcludeExtensions);
 }
 
 -- the values that count where the blocks have these truths
@@ -113,5 +113,5 @@ seen settings = record {
   server_max_keep_alive_requests = settings.server_max_keep_alive_requests;
   index_file_names = settings.index_file_names.now;
   mimetype_assign = settings.mimetype_assign.now;
-  static_file_exclude_extensions = settings.static_file_exclude_extensions.now
+  static_file_exclude_extensions = settings.static_file_exclude_extensions.now;
 }

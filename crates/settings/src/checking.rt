@@ -63,7 +63,9 @@ fn value_check(rule: Rule, value: &Value) -> KeyCheck
 {
     match (rule, value) {
         (Rule::Text(rule), Value::Text(text)) => known_if(is_good(rule, text.bytes())),
-        (Rule::Number(least, most), Value::Number(number)) => known_if(is_between(least, most, *number)),
+        (Rule::Number(least, most), Value::Number(number)) => known_if(is_between(
+            least, most, *number,
+        )),
         (Rule::Texts(rule), Value::Array(pairs)) => texts_check(rule, pairs.as_slice()),
         (Rule::Table(rule), Value::Array(pairs)) => table_check(rule, pairs.as_slice()),
         _ => KeyCheck::WrongType,
@@ -102,7 +104,9 @@ fn texts_check(rule: TextRule, pairs: &[Pair]) -> KeyCheck
 fn are_items(pairs: &[Pair]) -> bool
     ensures { result ≡ list_all spec.is_item pairs.now }
 {
-    pairs.iter().all(|pair| pair.key.is_none() && is_text(&pair.value))
+    pairs
+        .iter()
+        .all(|pair| pair.key.is_none() && is_text(&pair.value))
 }
 
 fn are_good_items(rule: TextRule, pairs: &[Pair]) -> bool
@@ -124,7 +128,9 @@ fn table_check(rule: TextRule, pairs: &[Pair]) -> KeyCheck
 fn are_entries(pairs: &[Pair]) -> bool
     ensures { result ≡ list_all spec.is_entry pairs.now }
 {
-    pairs.iter().all(|pair| pair.key.is_some() && is_text(&pair.value))
+    pairs
+        .iter()
+        .all(|pair| pair.key.is_some() && is_text(&pair.value))
 }
 
 fn are_good_entries(rule: TextRule, pairs: &[Pair]) -> bool

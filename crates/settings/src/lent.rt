@@ -5,9 +5,11 @@ ghost use Rattle.settings.specs.Indexed.{IsIndexOf};
 ghost use Rattle.settings.specs.Used.{seen, values_of};
 ghost use Rattle.settings.specs.Winning.{counting};
 
-use crate::places::{Index, counting_by};
 use crate::key::Key;
-use crate::value::{bound_to, bytes_of, number_or, one_or_more, pairs_or_none, port_of, text_or, without_last_slash};
+use crate::places::{Index, counting_by};
+use crate::value::{
+    bound_to, bytes_of, number_or, one_or_more, pairs_or_none, port_of, text_or, without_last_slash,
+};
 use crate::winning::counting;
 use conf_value::{Block, Config, Pair, Setting, Truth};
 
@@ -87,7 +89,12 @@ fn settings_of<'a>(blocks: &'a [Block], index: Option<&Index>, truths: &[Truth])
     }
 }
 
-fn setting<'a>(blocks: &'a [Block], index: Option<&Index>, truths: &[Truth], key: Key) -> Option<&'a Setting>
+fn setting<'a>(
+    blocks: &'a [Block],
+    index: Option<&Index>,
+    truths: &[Truth],
+    key: Key,
+) -> Option<&'a Setting>
     requires length { length truths.now ≡ length blocks.now }
     requires index { IfSome index (λ given. IsIndexOf blocks.now given.now) }
     ensures { option_copied result ≡ counting key blocks.now truths.now }

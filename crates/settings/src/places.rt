@@ -47,7 +47,10 @@ fn places_from(alloc: Global, blocks: &[Block], key: &[u8]) -> Result<List<Place
 {
     let mut places = List::new(alloc);
     for (number, block) in blocks.iter().enumerate() {
-        push_place(&mut places, place_of(block.settings.as_slice(), key, number))?;
+        push_place(
+            &mut places,
+            place_of(block.settings.as_slice(), key, number),
+        )?;
     }
     Ok(places)
 }
@@ -73,7 +76,9 @@ fn place_of(settings: &[Setting], key: &[u8], block: usize) -> Option<Place>
 fn at(settings: &[Setting], key: &[u8]) -> Option<usize>
     ensures { result ≡ position (is_of key.now) settings.now }
 {
-    settings.iter().position(|setting| setting.key.bytes() == key)
+    settings
+        .iter()
+        .position(|setting| setting.key.bytes() == key)
 }
 
 impl Index {
@@ -89,7 +94,12 @@ impl Index {
 }
 
 /// The setting of a typed key that counts, by way of the index.
-pub fn counting_by<'a>(blocks: &'a [Block], index: &Index, truths: &[Truth], key: Key) -> Option<&'a Setting>
+pub fn counting_by<'a>(
+    blocks: &'a [Block],
+    index: &Index,
+    truths: &[Truth],
+    key: Key,
+) -> Option<&'a Setting>
     requires length { length truths.now ≡ length blocks.now }
     requires index { spec.IsIndexOf blocks.now index.now }
     ensures { option_copied result ≡ counting key blocks.now truths.now }

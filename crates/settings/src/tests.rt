@@ -44,18 +44,22 @@ fn checked(alloc: Global, key: &[u8], word: &[u8]) -> Result<KeyCheck, NoMemory>
     Ok(check_value(key, &value(alloc, word)?))
 }
 
-const RIGHT: &[u8] = b"server.document-root \"/srv/|server.port 1|server.port 65535|server.bind \"127.0.0.1|server.modules (a,b|\
+const RIGHT: &[u8] =
+    b"server.document-root \"/srv/|server.port 1|server.port 65535|server.bind \"127.0.0.1|server.modules (a,b|\
 server.tag \"web 1|server.max-request-size 0|server.max-request-size 4096|server.max-request-size 4097|\
 server.max-keep-alive-requests 0|index-file.names (index.html|mimetype.assign (.a=b/c,=d/e|mimetype.assign (|\
 static-file.exclude-extensions (.php,/";
 
-const WRONG_TYPE: &[u8] = b"server.document-root 1|server.port \"80|server.bind (|server.modules \"a|server.tag 1|server.max-request-size \"1|\
+const WRONG_TYPE: &[u8] =
+    b"server.document-root 1|server.port \"80|server.bind (|server.modules \"a|server.tag 1|server.max-request-size \"1|\
 server.max-keep-alive-requests (|index-file.names (a=b|mimetype.assign (a|static-file.exclude-extensions 1|index-file.names (a/b,a=b";
 
-const BAD: &[u8] = b"server.document-root \"srv|server.document-root \"|server.port 0|server.port 65536|server.port -|server.bind \"1.2.3|\
+const BAD: &[u8] =
+    b"server.document-root \"srv|server.document-root \"|server.port 0|server.port 65536|server.port -|server.bind \"1.2.3|\
 server.tag \"\x7f|server.max-request-size -|server.max-keep-alive-requests -|index-file.names (a/b|mimetype.assign (.a=\x1f";
 
-const UNKNOWN: &[u8] = b"server.username \"a|var.a 1|url.rewrite (a=b|fastcgi.server (|proxy.server (|server.portt 1|server.por 1";
+const UNKNOWN: &[u8] =
+    b"server.username \"a|var.a 1|url.rewrite (a=b|fastcgi.server (|proxy.server (|server.portt 1|server.por 1";
 
 fn all_are(rt: &impl Abort, alloc: Global, rows: &[u8], expected: KeyCheck) {
     for row in rows.split(|byte| *byte == b'|') {
@@ -97,7 +101,11 @@ fn block(alloc: Global, rows: &[u8]) -> Result<Block, NoMemory> {
         let mut words = row.splitn(2, |byte| *byte == b' ');
         let key = Text::from_bytes(alloc, words.next().unwrap_or(b""))?;
         let value = value(alloc, words.next().unwrap_or(b""))?;
-        settings.push(Setting { key, value, first_pattern: 0 })?;
+        settings.push(Setting {
+            key,
+            value,
+            first_pattern: 0,
+        })?;
     }
     Ok(Block {
         parent: 0,
@@ -118,7 +126,8 @@ fn config(alloc: Global, blocks: &[u8]) -> Result<Config, NoMemory> {
     })
 }
 
-const BLOCKS: &[u8] = b"server.document-root \"/srv/|server.port 8080|server.max-request-size 0|index-file.names (a,b{\
+const BLOCKS: &[u8] =
+    b"server.document-root \"/srv/|server.port 8080|server.max-request-size 0|index-file.names (a,b{\
 server.tag \"one|server.port 9|server.max-request-size 4096|server.max-keep-alive-requests 0{\
 server.tag \"two|server.document-root \"/|server.max-request-size 4097";
 

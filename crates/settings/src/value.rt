@@ -32,11 +32,7 @@ pub fn number_or(default: u64, setting: Option<&Setting>) -> u64
 fn natural(number: i64) -> u64
     ensures { result ≡ spec.natural number }
 {
-    if number < 0 {
-        0
-    } else {
-        number as u64
-    }
+    if number < 0 { 0 } else { number as u64 }
 }
 
 pub fn pairs_or_none(setting: Option<&Setting>) -> &[Pair]

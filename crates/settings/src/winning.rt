@@ -19,7 +19,11 @@ pub fn blocks_of(blocks: &[Block], key: Key) -> &[Block]
     ensures blocks { result.now ≡ spec.blocks_of key blocks.now }
     ensures fewer { length result.now ≤ length blocks.now }
 {
-    if key.is_global() { first(blocks) } else { blocks }
+    if key.is_global() {
+        first(blocks)
+    } else {
+        blocks
+    }
 }
 
 fn first(blocks: &[Block]) -> &[Block]

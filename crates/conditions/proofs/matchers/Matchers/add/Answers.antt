@@ -12,16 +12,19 @@ invariant_of-self c = all_kept _ _ _ _ c.push.ensures.items c.self.invariant c.i
 
 pub returns-clause-ok : goal.returns-clause-ok
 returns-clause-ok c = elim c.match-push.branch [
-    in-Ok w ↦ rw w.result-is (pushed _ _ _ _ c.push.ensures.items (ap (λ r. is_ok r) w.in-Ok.is)
-    ∙ ap₂ (λ (xs : List Marked) (x : Marked). xs ++ x ∷ []) c.self.view_is c.in_ok-kept.ensures.marked)
-  | in-Err w ↦ rw w.result-is tt ]
+  | in-Ok w ↦ rw w.result-is (pushed _ _ _ _ c.push.ensures.items (ap (λ r. is_ok r) w.in-Ok.is)
+      ∙ ap₂ (λ (xs : List Marked) (x : Marked). xs ++ x ∷ []) c.self.view_is c.in_ok-kept.ensures.marked)
+  | in-Err w ↦ rw w.result-is tt
+]
 
 pub returns-clause-number : goal.returns-clause-number
 returns-clause-number c = elim c.match-push.branch [
-    in-Ok w ↦ rw w.result-is (omega (arith, length-map c.self.inside.kept.items marked, ap (λ (xs : List Marked). length xs) c.self.view_is))
-  | in-Err w ↦ rw w.result-is tt ]
+  | in-Ok w ↦ rw w.result-is (omega (arith, length-map c.self.inside.kept.items marked, ap (λ (xs : List Marked). length xs) c.self.view_is))
+  | in-Err w ↦ rw w.result-is tt
+]
 
 pub returns-clause-err : goal.returns-clause-err
 returns-clause-err c = elim c.match-push.branch [
-    in-Ok w ↦ rw w.result-is tt
-  | in-Err w ↦ rw w.result-is (unpushed _ _ _ _ c.push.ensures.items (ap (λ r. is_ok r) w.in-Err.is) ∙ c.self.view_is) ]
+  | in-Ok w ↦ rw w.result-is tt
+  | in-Err w ↦ rw w.result-is (unpushed _ _ _ _ c.push.ensures.items (ap (λ r. is_ok r) w.in-Err.is) ∙ c.self.view_is)
+]

@@ -15,7 +15,7 @@ pub returns-clause-found : goal.returns-clause-found
 returns-clause-found c = λ text rule there.
     let named = subst (λ (xs : List Marked). slice_get xs c.args.pattern ≡ Some (text, rule)) (sym c.self.view_is) there in
     let low : c.args.pattern < length c.self.inside.kept.items =
-        omega (arith, c.requires, ap (λ (xs : List Marked). length xs) c.self.view_is, length-map c.self.inside.kept.items marked) in
+    omega (arith, c.requires, ap (λ (xs : List Marked). length xs) c.self.view_is, length-map c.self.inside.kept.items marked) in
     let is = mark_at c.self.inside.kept.items c.args.pattern c.index_mut.result.now (text, rule) c.index_mut.ensures.value named low in
     rw (ap (λ (m : Marked). m.0) is) at c.found_in.ensures.found
 
