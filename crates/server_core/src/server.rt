@@ -199,7 +199,7 @@ impl<'c> Server<'c> {
 
     /// Ends the server: it gives every file back that it keeps. No client is told.
     pub fn close<F: Files>(self, files: &mut F)
-        requires backs { F.tells → Backs (F.disk files.old).table self.entry.table }
+        requires backs { F.tells → Backs (F.disk files.old).table self.table }
         ensures disk { F.tells → F.disk files.new ≡ all_freed self.entry.table (F.disk files.old) }
 
         // Where it serves, no file is open then.
