@@ -13,8 +13,8 @@ use Rattle.settings.specs.declared.key.Key.TheVariants.{DocumentRoot, Port, Bind
 use Rattle.settings.specs.declared.key.TheConstants.{KEYS}
 use Rattle.settings.specs.declared.places.Place.{Place}
 use Rattle.settings.specs.Keys.{is_global, name, row}
-use Rattle.settings.specs.Winning.{is_of, setting_of, set_by, or_else, winner, counting}
-use Rattle.settings.specs.Indexed.{place_of, places_of, with_place, places_from, in_block, where_true, winner_at}
+use Rattle.settings.specs.Winning.{is_of, setting_of, set_by, or_else, winner, blocks_of, counting}
+use Rattle.settings.specs.Indexed.{place_of, places_of, with_place, places_from, in_block, where_true, set_at, winner_at}
 
 -- the setting at a place that may not be there
 abbrev found : List Setting → Option ℕ → Option Setting

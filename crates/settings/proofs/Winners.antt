@@ -1,12 +1,12 @@
 -- Which setting counts.
-use Rattle.std.proofs.Common.{◌≡◌, ℕ, ◌⊎◌, inl, inr, List, [], ◌∷◌, None, refl, sym, ◌∙◌, ap}
+use Rattle.std.proofs.Common.{◌≡◌, ℕ, ◌⊎◌, inl, inr, List, [], ◌∷◌, Option, None, refl, sym, ◌∙◌, ap}
 use Rattle.conf_value.specs.declared.block.Block.{Block}
 use Rattle.conf_value.specs.declared.truth.Truth.{Truth}
 use Rattle.conf_value.specs.declared.truth.Truth.TheVariants.{True, False, Unset}
 use Rattle.settings.specs.declared.key.Key.{Key}
 use Rattle.settings.specs.Keys.{name}
 use Rattle.settings.specs.Used.{values_by, values_of}
-use Rattle.settings.specs.Winning.{setting_of, set_by, or_else, winner, blocks_of, Agree}
+use Rattle.settings.specs.Winning.{setting_of, set_by, or_else, winner, blocks_of, counting, Agree}
 
 -- a block that doesn't set the key gives nothing, whatever its truth
 silent : (key : List ℕ) (block : Block) (t : Truth) → setting_of key block.settings ≡ None → set_by key block t ≡ None

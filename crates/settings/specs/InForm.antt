@@ -1,5 +1,5 @@
 -- A configuration in form: what every call that reads one may rely on, and what loading gives.
-use Rattle.std.specs.Prelude.{◌≡◌, ◌≢◌, ℕ, ◌<◌, ◌^◌, List, length, Option, Some, None, slice_get}
+use Rattle.std.specs.Prelude.{◌≡◌, ◌≢◌, ℕ, ◌<◌, ◌^◌, ◌⊎◌, ◌↔◌, List, length, Option, Some, None, slice_get}
 use Rattle.std.specs.Option.{IsSome}
 use Rattle.conf_value.specs.declared.block.Block.{Block}
 use Rattle.conf_value.specs.declared.block.Setting.{Setting}

@@ -1,5 +1,5 @@
 -- The values that count for a list of truths, one a block: each typed key after its rule, or its default.
-use Rattle.std.specs.Prelude.{ℕ, ◌-◌, ◌*◌, ℤ, pos, negsuc, ◌||◌, ◌==◌, nat_eq, nat_lt, List, [], ◌∷◌, length, take, Option, None, Some, codes, if◌then◌else◌}
+use Rattle.std.specs.Prelude.{ℕ, ◌-◌, ◌*◌, ℤ, pos, negsuc, Bool, ◌||◌, ◌==◌, nat_eq, nat_lt, List, [], ◌∷◌, length, take, Option, None, Some, codes, if◌then◌else◌}
 use Rattle.std.specs.List.{ends_with}
 use Rattle.std.specs.Option.{unwrap_or}
 use Rattle.conf_value.specs.declared.block.Setting.{Setting}
