@@ -148,9 +148,9 @@ fn play<S: Sink>(
 ) -> Status
     requires fresh { files.old ≡ record no_files { places = files.old.places } }
     requires begins { net.old.game.trace ≡ [] }
-    requires table { (links : ℕ) → IsTable links server.entry.table }
-    requires backs { (disk : Disk) → Backs disk.table server.entry.table }
-    requires serves { (disk : Disk) → disk.calls ≡ [] → ((file : ℕ) → disk.table file ≡ None) → Serves disk (serving_at server.entry) [] }
+    requires table { (links : ℕ) → IsTable links server.table }
+    requires backs { (disk : Disk) → Backs disk.table server.table }
+    requires serves { (disk : Disk) → disk.calls ≡ [] → ((file : ℕ) → disk.table file ≡ None) → Serves disk (serving_at server) [] }
     ensures serves { Served server.entry.site (tree_of files.old) (asked_of files.new) net.new.game.trace }
     ensures ends { PlaySays result net.new.last }
     ensures calm { (steps : List Step) → net.old ≡ unplayed steps → IsCalm steps → AllEndCalmly net.new.game.trace }
@@ -171,9 +171,9 @@ fn play<S: Sink>(
 fn serve(server: Server<'_>, net: &mut ScriptNet, files: &mut MemFiles) -> Finish
     requires fresh { files.old ≡ record no_files { places = files.old.places } }
     requires begins { net.old.game.trace ≡ [] }
-    requires table { (links : ℕ) → IsTable links server.entry.table }
-    requires backs { (disk : Disk) → Backs disk.table server.entry.table }
-    requires serves { (disk : Disk) → disk.calls ≡ [] → ((file : ℕ) → disk.table file ≡ None) → Serves disk (serving_at server.entry) [] }
+    requires table { (links : ℕ) → IsTable links server.table }
+    requires backs { (disk : Disk) → Backs disk.table server.table }
+    requires serves { (disk : Disk) → disk.calls ≡ [] → ((file : ℕ) → disk.table file ≡ None) → Serves disk (serving_at server) [] }
     ensures serves { Served server.entry.site (tree_of files.old) (asked_of files.new) net.new.game.trace }
     ensures last { FinishFits result net.new.last }
     ensures over { result ≡ Finish.Over → events_left net.new.game.left ≡ 0 }
