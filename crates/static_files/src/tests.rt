@@ -1,10 +1,7 @@
 //! Answers from RFC 9110, from the rule of leap years, and from lighttpd's documentation.
-use crate::{
-    Place, Range, find_file, fresh, is_excluded, last_modified, location, map_path, mime, ranges,
-};
+use crate::{Range, fresh, is_excluded, last_modified, location, map_path, mime, ranges};
 use conf_value::{Pair, Value};
 use lt_bytes::{List, Number, Text, read_decimal};
-use lt_world::{FileCall, MemFiles, Owner};
 use std::alloc::Global;
 use std::test::Fail;
 
@@ -138,7 +135,9 @@ fn each_day_until_the_year_10000_is_written_and_read(rt: HostRuntime) {
                 let time = days.wrapping_mul(86_400).wrapping_add(86_399);
                 let text = night(days, year, month, day.wrapping_add(1));
                 assert!(rt; last_modified(time) == Some(text));
-                assert!(rt; fresh(&text, time) && !fresh(&text, time.wrapping_add(1)));
+                if day == 0 {
+                    assert!(rt; fresh(&text, time) && !fresh(&text, time.wrapping_add(1)));
+                }
                 days = days.wrapping_add(1);
             }
         }
@@ -166,66 +165,10 @@ fn a_date_in_each_form_is_compared(rt: HostRuntime) {
     }
 }
 
-const OWNER: Owner = Owner {
-    conn: 0,
-    request: 0,
-};
-
-fn names(alloc: Global) -> Result<List<Text>, Fail> {
-    let mut index = List::new(alloc);
-    for name in b"index.php index.html index.htm".split(|byte| *byte == b' ') {
-        index.push(Text::from_bytes(alloc, name)?)?;
-    }
-    Ok(index)
-}
-
-#[test]
-fn a_directory_leads_to_its_first_index_name_with_a_file(rt: HostRuntime) -> Result<(), Fail> {
-    let index = names(rt.alloc())?;
-    let mut files = MemFiles::new(rt.alloc());
-    files.add_file(b"/srv/d/index.html", 7, b"hello")?;
-    files.add_file(b"/srv/d/index.htm", 7, b"later")?;
-    files.add_dir(b"/srv/d/index.php")?;
-    files.plan(FileCall::Find, 3)?;
-    let physical = map_path(rt.alloc(), b"/srv".as_slice(), b"/d/".as_slice())?;
-    assert_eq!(rt; physical.bytes(), b"/srv/d/".as_slice());
-    match find_file(
-        rt.alloc(),
-        &mut files,
-        OWNER,
-        b"/d/".as_slice(),
-        physical.bytes(),
-        &index,
-    )? {
-        Place::File { path, physical } => {
-            assert_eq!(rt; path.bytes(), b"/d/index.html".as_slice());
-            assert_eq!(rt; physical.bytes(), b"/srv/d/index.html".as_slice());
-        }
-        Place::Status(status) => assert_eq!(rt; status, 0),
-    }
-    let failed = find_file(
-        rt.alloc(),
-        &mut files,
-        OWNER,
-        b"/d/".as_slice(),
-        physical.bytes(),
-        &index,
-    )?;
-    assert!(rt; matches!(&failed, Place::Status(500)));
-    let nowhere = find_file(
-        rt.alloc(),
-        &mut files,
-        OWNER,
-        b"/".as_slice(),
-        b"/srv/".as_slice(),
-        &index,
-    )?;
-    assert!(rt; matches!(&nowhere, Place::Status(403)));
-    Ok(())
-}
-
 #[test]
 fn a_location_is_escaped_and_an_extension_is_excluded(rt: HostRuntime) -> Result<(), Fail> {
+    let physical = map_path(rt.alloc(), b"/srv".as_slice(), b"/d/".as_slice())?;
+    assert_eq!(rt; physical.bytes(), b"/srv/d/".as_slice());
     let plain = location(
         rt.alloc(),
         b"/a-._~!$&'()*+,;=:@Z9".as_slice(),
