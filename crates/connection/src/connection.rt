@@ -85,6 +85,20 @@ impl Conn {
         self.link
     }
 
+    /// Where the client came from.
+    pub fn peer(&self) -> Address
+        ensures peer { result ≡ self.now.held.peer }
+    {
+        self.peer
+    }
+
+    /// The address to which it came.
+    pub fn local(&self) -> Address
+        ensures local { result ≡ self.now.held.local }
+    {
+        self.local
+    }
+
     /// The current request, as files know it.
     pub fn owner(&self) -> Owner
         ensures conn { result.conn ≡ self.now.held.link }
