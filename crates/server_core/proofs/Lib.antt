@@ -1,4 +1,3 @@
-pub mod Planning
 pub mod Advancing
 mod Settling
 pub mod Stepped
@@ -8,4 +7,3 @@ pub mod Offering
 pub mod Placed
 pub mod Tabled
 pub mod Closing
-pub mod Truths

@@ -1,5 +1,5 @@
 -- Places that clients have, and places that are free.
-use Rattle.std.proofs.Common.{◌≡◌, ℕ, ◌+◌, ◌<◌, ◌≤◌, List, [], ◌∷◌, ◌++◌, length, take, drop, set, length-append, refl, sym, ◌∙◌, ap, subst, arith}
+use Rattle.std.proofs.Common.{◌≡◌, ℕ, ◌+◌, ◌<◌, List, [], ◌∷◌, ◌++◌, length, take, drop, set, length-append, sym, ap, subst, arith}
 use Rattle.std.proofs.lemmas.List.{length-set, length-take, length-drop}
 use Rattle.buffer_pool.specs.State.{PoolState}
 use Rattle.buffer_pool.specs.Kept.{Kept, HeldWithin}

@@ -29,12 +29,11 @@ use Rattle.server_model.proofs.SettleSteps.{settle_rests, settle_finishes, settl
 use Rattle.connection.specs.Connection.{head_at, EndsInFile}
 use Rattle.connection.specs.Stages.{stage_of, is_asking}
 use Rattle.connection.specs.declared.stage.Stage.TheVariants as next
-use Rattle.server_core.specs.declared.form.Form.{Form}
-use Rattle.server_core.specs.Form.{form_of, refused_form}
-use Rattle.server_core.specs.Planned.{Plans}
+use Rattle.request_plan.specs.declared.form.Form.{Form}
+use Rattle.request_plan.specs.Form.{form_of, refused_form}
+use Rattle.request_plan.specs.Planned.{PlansOutcome}
 use Rattle.server_core.specs.Steps.{is_idle, IsFree, IsAdvanced, IsResting, WaitsOn, GivenBy}
-use Rattle.server_core.specs.declared.plan.Planned.{Planned}
-use Rattle.server_core.specs.declared.plan.Planned.TheVariants as planned
+use Rattle.request_plan.specs.declared.planned.Outcome as planned
 use Rattle.server_core.proofs.Advancing.{IsRefused, Rests, free_freed, advanced_fits, step_settled, headed, asks_looks, accepted_idle, accepted_free, accepted_reads}
 
 -- bytes in memory fit any files
@@ -167,7 +166,7 @@ module _ (site : Site) (held : Held) (tells : Type 0) (before after : Disk) (hea
   settles_released file size between plans same = plan_yields site held held tells before after head content None asking refl none none (λ f. release_calls site held.link (number_of held.stage) head file before between after (same f) (Some (arrival_of held)) (plans f).calls)
 
   -- memory is wanted for the plan itself
-  pub settles_unplanned : (tells → Plans planned.NoMemory site (Some (arrival_of held)) held.link (number_of held.stage) head before after) → SettlesTo true site held held (Some ending.NoMemory) tells before after
+  pub settles_unplanned : (tells → CallsFor site (Some (arrival_of held)) held.link (number_of held.stage) head None before after) → SettlesTo true site held held (Some ending.NoMemory) tells before after
   settles_unplanned calls = plan_yields site held held tells before after head content None asking refl none none calls
 
 -- no byte of a file goes out
@@ -240,9 +239,9 @@ pub settles_unread : (site : Site) (held new : Held) (tells : Type 0) (disk : Di
 settles_unread site held new tells disk link file = settle_yields site held tells disk new link file
 
 -- the limit is that of the head which was read
-pub body_limit : (site : Site) (held : Held) (limit : ℕ) → limit ≡ (settings_at site (Some (arrival_of held)) (head_at held.stage)).body_limit
-    → (k : ℕ) (head : Head) → held.stage ≡ Heading k head → limit ≡ (settings_at site (Some (arrival_of held)) (Some head)).body_limit
-body_limit site held limit is k head at = is ∙ ap (λ (o : Option Head). (settings_at site (Some (arrival_of held)) o).body_limit) (ap head_at at)
+pub body_limit : (site : Site) (held : Held) (s : Settings) → s ≡ settings_at site (Some (arrival_of held)) (head_at held.stage)
+    → (k : ℕ) (head : Head) → held.stage ≡ Heading k head → s.body_limit ≡ (settings_at site (Some (arrival_of held)) (Some head)).body_limit
+body_limit site held s is k head at = ap (λ (t : Settings). t.body_limit) is ∙ ap (λ (o : Option Head). (settings_at site (Some (arrival_of held)) o).body_limit) (ap head_at at)
 
 -- the body of its request is accepted, and then what follows
 module _ (site : Site) (held mid : Held) (tells : Type 0) (disk : Disk) (limit : ℕ) (same : (k : ℕ) (head : Head) → held.stage ≡ Heading k head → limit ≡ (settings_at site (Some (arrival_of held)) (Some head)).body_limit) (heading : stage_of held ≡ next.Head) (free : IsFree held) (is : mid ≡ accepted held limit) where
@@ -325,16 +324,25 @@ pub kept_with : (p q r : PoolState) (none : Contents) (l body m : List ℕ) → 
 kept_with p q r none l body m nothing pushed given = subst (λ (g : List ℕ). Kept p g r m) (append-nil l)
     (kept_both p q r (l ++ []) (l ++ body) m (kept_beside p q l [] body (subst (λ (b : Contents). Kept p b.numbers q body) nothing pushed)) given)
 
-pub plans_as : (p q : Planned) → p ≡ q → (site : Site) (arrival : Option Arrival) (client k : ℕ) (head : Head) (before after : Disk) → Plans p site arrival client k head before after → Plans q site arrival client k head before after
-plans_as p q is site arrival client k head before after plans = subst (λ (x : Planned). Plans x site arrival client k head before after) is plans
+pub plans_as : (p q : planned.Outcome) → p ≡ q → (site : Site) (arrival : Option Arrival) (client k : ℕ) (head : Head) (before after : Disk) → PlansOutcome p site arrival client k head before after → PlansOutcome q site arrival client k head before after
+plans_as p q is site arrival client k head before after plans = subst (λ (x : planned.Outcome). PlansOutcome x site arrival client k head before after) is plans
 
-pub plans_at : (p : Planned) (site : Site) (arrival : Option Arrival) (m n j k : ℕ) (g h : Head) (before after : Disk) → m ≡ n → j ≡ k → g ≡ h → Plans p site arrival m j g before after → Plans p site arrival n k h before after
-plans_at p site arrival m n j k g h before after client number head plans =
-    subst (λ (c : ℕ). Plans p site arrival c k h before after) client (subst (λ (i : ℕ). Plans p site arrival m i h before after) number (subst (λ (x : Head). Plans p site arrival m j x before after) head plans))
+pub plans_at : (o : planned.Outcome) (site : Site) (a b : Arrival) (m n j k : ℕ) (g h : Head) (before after : Disk) → a ≡ b → m ≡ n → j ≡ k → g ≡ h → PlansOutcome o site (Some a) m j g before after → PlansOutcome o site (Some b) n k h before after
+plans_at o site a b m n j k g h before after came client number head plans = subst (λ (x : Arrival). PlansOutcome o site (Some x) n k h before after) came
+    (subst (λ (c : ℕ). PlansOutcome o site (Some a) c k h before after) client (subst (λ (i : ℕ). PlansOutcome o site (Some a) m i h before after) number (subst (λ (x : Head). PlansOutcome o site (Some a) m j x before after) head plans)))
+
+-- without memory for its plan
+pub calls_at : (site : Site) (a b : Arrival) (m n j k : ℕ) (g h : Head) (before after : Disk) → a ≡ b → m ≡ n → j ≡ k → g ≡ h → CallsFor site (Some a) m j g None before after → CallsFor site (Some b) n k h None before after
+calls_at site a b m n j k g h before after came client number head calls = subst (λ (x : Arrival). CallsFor site (Some x) n k h None before after) came
+    (subst (λ (c : ℕ). CallsFor site (Some a) c k h None before after) client (subst (λ (i : ℕ). CallsFor site (Some a) m i h None before after) number (subst (λ (x : Head). CallsFor site (Some a) m j x None before after) head calls)))
 
 -- the head that was read is the one of the request
 pub same_head : (g h : Head) (o : Option Head) → Some g ≡ o → o ≡ Some h → g ≡ h
 same_head g h o a b = let s : Some g ≡ Some h = a ∙ b in cc (s)
+
+-- the settings are those of the request
+pub lent_at : (s : Settings) (site : Site) (a b : Arrival) (g h : Head) → s ≡ settings_at site (Some a) (Some g) → a ≡ b → g ≡ h → s ≡ settings_at site (Some b) (Some h)
+lent_at s site a b g h is came head = is ∙ (λ i. settings_at site (Some (came i)) (Some (head i)))
 
 pub form_at : (form : Form) (m n j k : ℕ) (g h : Head) → form ≡ form_of m j g → m ≡ n → j ≡ k → g ≡ h → form ≡ form_of n k h
 form_at form m n j k g h is limit number head = is ∙ (λ i. form_of (limit i) (number i) (head i))

@@ -8,8 +8,7 @@ use Rattle.lt_world.specs.declared.net.Ending.{Ending}
 use Rattle.lt_world.specs.Disk.{Disk, Table}
 use Rattle.lt_world.specs.Trace.{Act, Entry, Close, said}
 use Rattle.server_model.specs.Site.{Site}
-use Rattle.server_model.specs.World.{World}
-use Rattle.server_model.specs.Deeds.{Deed, Ours, told}
+use Rattle.server_model.specs.Deeds.{Ours, told}
 use Rattle.server_model.specs.Held.{Held, IsPlace, kept_at}
 use Rattle.server_model.specs.Steps.{arrived}
 use Rattle.server_model.specs.Files.{IsOpened, Backs, Drops, IsTable}

@@ -1,9 +1,6 @@
 pub mod Client
-pub mod Form
 pub mod Offers
 pub mod Places
-pub mod Planned
-pub mod Served
 pub mod Steps
 pub mod Table
 pub mod Turns

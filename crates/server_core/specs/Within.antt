@@ -6,7 +6,6 @@ use Rattle.server_model.specs.Site.{Site}
 use Rattle.server_model.specs.Held.{Held, Serving}
 use Rattle.connection.specs.Connection.{Connected}
 use Rattle.server_core.specs.Places.{ArePlaces}
-use Rattle.server_core.specs.Served.{served}
 use Rattle.server_core.specs.Table.{helds, offers_of, IsKept}
 use Rattle.server_core.specs.declared.server.Server.TheInside.{Inside}
 
@@ -35,7 +34,7 @@ IsEachBufferOnce s = (n : ℕ) → places n s.pool.free + places n (joined s.que
 
 abbrev pub running_of : Inside → Running
 running_of s = record {
-  site = served s.site;
+  site = s.site;
   table = helds s.clients.items;
   offers = offers_of s.clients.items;
   queued = map (λ (c : Connected). c.numbers) s.clients.items;

@@ -1,22 +1,27 @@
-//! The settings of a request.
+//! What is asked for a client: where it came from, and the settings of its current request.
 ghost use Rattle.std.specs.Prelude.{◌≡◌, Some};
 ghost use Rattle.connection.specs.Connection.{head_at};
-ghost use Rattle.server_core.specs.Served.{served};
+ghost use Rattle.request_plan.specs.Lent.{lent, came};
 ghost use Rattle.server_model.specs.Held.{arrival_of};
 ghost use Rattle.server_model.specs.Settings.{settings_at};
 
-use crate::site::Site;
 use connection::Conn;
-use settings::{Settings, used};
+use request_plan::{Arrival, Site, settings_for};
+use settings::Settings;
 
-/// The settings of the client's current request, of which the head was read or not. They are lent, without memory.
-#[tactic(auto, using(crate::proofs::Truths::a_truth_each), unfolding(server_model::specs::Settings::settings_at))]
-pub(crate) fn settings_for<'c>(site: &Site<'c>, conn: &Conn) -> Settings<'c>
-    ensures root { result.server_document_root.now ≡ (settings_at (served site.now) (Some (arrival_of conn.now.held)) (head_at conn.now.held.stage)).root }
-    ensures tag { result.server_tag.now ≡ (settings_at (served site.now) (Some (arrival_of conn.now.held)) (head_at conn.now.held.stage)).tag }
-    ensures requests { result.server_max_keep_alive_requests ≡ (settings_at (served site.now) (Some (arrival_of conn.now.held)) (head_at conn.now.held.stage)).request_limit }
-    ensures body { result.server_max_request_size ≡ (settings_at (served site.now) (Some (arrival_of conn.now.held)) (head_at conn.now.held.stage)).body_limit }
+/// Where the client came from.
+pub(crate) fn arrival(conn: &Conn) -> Arrival
+    ensures arrival { came result ≡ arrival_of conn.now.held }
 {
-    let _ = conn;
-    used(site.config, site.truths.as_slice())
+    Arrival {
+        peer: conn.peer(),
+        local: conn.local(),
+    }
+}
+
+/// The settings of the client's current request, of which the head was read or not.
+pub(crate) fn settings_of<'c>(site: &Site<'c>, conn: &Conn) -> Settings<'c>
+    ensures settings { lent result ≡ settings_at site.now (Some (arrival_of conn.now.held)) (head_at conn.now.held.stage) }
+{
+    settings_for(site, arrival(conn), conn.request())
 }

@@ -6,14 +6,10 @@
 #![tactic(auto)]
 
 mod client;
-mod form;
 mod lending;
 mod places;
-mod plan;
-mod replies;
 mod server;
 mod settle;
-mod site;
 mod step;
 mod table;
 mod turn;

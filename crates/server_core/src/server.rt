@@ -16,7 +16,6 @@ ghost use Rattle.server_core.specs.Turns.{Turned, OnRest, KindFits, Uses};
 
 use crate::client::Client;
 use crate::places::{CONNECTION_LIMIT, clear, free_places};
-use crate::site::Site;
 use crate::step::{Ready, release};
 use crate::table::{Arrival, accept_on, step_on};
 use crate::turn::Turn;
@@ -24,6 +23,7 @@ use chunkqueue::{BUFFER_SIZE, Store};
 use conf_value::Config;
 use lt_bytes::NoMemory;
 use lt_world::{Event, Files, Net};
+use request_plan::Site;
 use std::alloc::Global;
 use std::marker::Model;
 

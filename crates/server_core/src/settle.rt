@@ -15,19 +15,15 @@ ghost use Rattle.server_model.specs.Steps.{looks, number_of};
 ghost use Rattle.connection.specs.Connection.{file_number, IsBodyOf};
 ghost use Rattle.connection.specs.Stages.{stage_of, is_asking};
 ghost use Rattle.connection.specs.declared.stage.Stage.TheVariants as next;
-ghost use Rattle.server_core.specs.Form.{form_of};
-ghost use Rattle.server_core.specs.Planned.{Plans, PlansOpen, PlansWithin};
-ghost use Rattle.server_core.specs.Served.{served};
+ghost use Rattle.request_plan.specs.Form.{form_of};
+ghost use Rattle.request_plan.specs.Planned.{PlansOutcome, PlansOpen, PlansWithin};
 ghost use Rattle.server_core.specs.Steps.{is_idle, IsFree, IsAdvanced, WaitsOn, GivenBy};
 
-use crate::form::Form;
-use crate::lending::settings_for;
-use crate::plan::{Planned, plan};
-use crate::replies::REPLY_LIMIT;
-use crate::site::Site;
+use crate::lending::{arrival, settings_of};
 use chunkqueue::{BUFFER_SIZE, Chunks, Queue, Store};
 use connection::{Conn, INPUT_LIMIT, Stage};
 use lt_world::{Ending, FileId, Files};
+use request_plan::{Chosen, Form, Outcome, REPLY_LIMIT, Site, plan};
 
 // Bytes that are copied into buffers for a reply, at most: its head, and those of two chunks of its body.
 const REPLY_FILL: usize = REPLY_LIMIT + 2 * BUFFER_SIZE;
@@ -48,7 +44,7 @@ pub(crate) fn settle<F: Files>(
     requires idle { is_idle conn.old.held.stage ≡ true }
     requires free { IsFree conn.old.held }
     requires fits { F.tells → Fits (F.disk files.old).table conn.old.held }
-    ensures settles { SettlesTo (looks conn.old.held) (served site.now) conn.old.held conn.new.held result F.tells (F.disk files.old) (F.disk files.new) }
+    ensures settles { SettlesTo (looks conn.old.held) site.now conn.old.held conn.new.held result F.tells (F.disk files.old) (F.disk files.new) }
     ensures link { conn.new.held.link ≡ conn.old.held.link }
     ensures waits { WaitsOn result conn.new.held }
     ensures filled { store.new.filled ≤ store.old.filled + SETTLE_FILL }
@@ -76,7 +72,7 @@ fn read_body<F: Files>(
     requires heading { stage_of conn.old.held ≡ next.Head }
     requires free { IsFree conn.old.held }
     requires fits { F.tells → Fits (F.disk files.old).table conn.old.held }
-    ensures settles { SettlesTo true (served site.now) conn.old.held conn.new.held result F.tells (F.disk files.old) (F.disk files.new) }
+    ensures settles { SettlesTo true site.now conn.old.held conn.new.held result F.tells (F.disk files.old) (F.disk files.new) }
     ensures link { conn.new.held.link ≡ conn.old.held.link }
     ensures waits { WaitsOn result conn.new.held }
     ensures filled { store.new.filled ≤ store.old.filled + length conn.old.held.input + 25 + REPLY_FILL }
@@ -84,7 +80,7 @@ fn read_body<F: Files>(
     ensures reads { F.reads files.new ≡ F.reads files.old }
     ensures later { F.later files.old files.new }
 {
-    let settings = settings_for(site, conn);
+    let settings = settings_of(site, conn);
     let Ok(()) = conn.accept_body(store, settings.server_max_request_size) else {
         return Some(Ending::NoMemory);
     };
@@ -108,7 +104,7 @@ fn go_on<F: Files>(
     requires read { stage ≢ next.Head }
     requires fits { F.tells → Fits (F.disk files.old).table conn.old.held }
     // Memory may be wanted only for an answer.
-    ensures settles { SettlesTo (is_asking conn.old.held.stage) (served site.now) conn.old.held conn.new.held result F.tells (F.disk files.old) (F.disk files.new) }
+    ensures settles { SettlesTo (is_asking conn.old.held.stage) site.now conn.old.held conn.new.held result F.tells (F.disk files.old) (F.disk files.new) }
     ensures link { conn.new.held.link ≡ conn.old.held.link }
     ensures waits { WaitsOn result conn.new.held }
     ensures filled { store.new.filled ≤ store.old.filled + REPLY_FILL }
@@ -124,7 +120,7 @@ fn go_on<F: Files>(
         Stage::Finished => Some(Ending::Clean),
         Stage::Refused(status) => {
             let form = Form::of_refused(conn.request());
-            let settings = settings_for(site, conn);
+            let settings = settings_of(site, conn);
             refuse(conn, site, store, settings.server_tag, form, status)
         }
         Stage::Whole => respond(conn, site, store, files),
@@ -142,7 +138,7 @@ fn respond<F: Files>(
     requires whole { stage_of conn.old.held ≡ next.Whole }
     requires file { conn.old.held.file ≡ None }
     requires fits { F.tells → Fits (F.disk files.old).table conn.old.held }
-    ensures settles { SettlesTo true (served site.now) conn.old.held conn.new.held result F.tells (F.disk files.old) (F.disk files.new) }
+    ensures settles { SettlesTo true site.now conn.old.held conn.new.held result F.tells (F.disk files.old) (F.disk files.new) }
     ensures link { conn.new.held.link ≡ conn.old.held.link }
     ensures waits { WaitsOn result conn.new.held }
     ensures filled { store.new.filled ≤ store.old.filled + REPLY_FILL }
@@ -154,21 +150,13 @@ fn respond<F: Files>(
     let Some(request) = conn.request() else {
         return None;
     };
-    let settings = settings_for(site, conn);
-    let form = Form::of(
-        request,
-        owner.request,
-        settings.server_max_keep_alive_requests,
-    );
-    let planned = plan(
-        site,
-        conn,
-        settings.server_document_root,
-        request,
-        files,
-        owner,
-    );
-    serve(conn, site, store, files, settings.server_tag, form, planned)
+    let Ok(chosen) = plan(site, arrival(conn), request, files, owner) else {
+        return Some(Ending::NoMemory);
+    };
+    let Chosen { settings, outcome } = chosen;
+    let limit = settings.server_max_keep_alive_requests;
+    let form = Form::of(request, owner.request, limit);
+    serve(conn, site, store, files, settings.server_tag, form, outcome)
 }
 
 // Answers as is planned.
@@ -179,18 +167,18 @@ fn serve<F: Files>(
     files: &mut F,
     tag: &[u8],
     form: Form,
-    planned: Planned,
+    outcome: Outcome,
 ) -> Option<Ending>
     requires counted { HeldWithin store.old (length conn.old.numbers) }
     requires asking { is_asking conn.old.held.stage ≡ true }
     requires file { conn.old.held.file ≡ None }
     requires number { form.last ≡ false → number_of conn.old.held.stage < 2 ^ 32 - 1 }
-    requires within { PlansWithin planned }
-    requires opened { F.tells → PlansOpen planned (F.disk files.old) }
-    ensures settles { (before : Disk) (head : Head) (content : List ℕ) → conn.old.held.stage ≡ Asking (number_of conn.old.held.stage) (Complete head content) → form ≡ form_of (settings_at (served site.now) (Some (arrival_of conn.old.held)) (Some head)).request_limit (number_of conn.old.held.stage) head → tag.now ≡ (settings_at (served site.now) (Some (arrival_of conn.old.held)) (Some head)).tag →
+    requires within { PlansWithin outcome }
+    requires opened { F.tells → PlansOpen outcome (F.disk files.old) }
+    ensures settles { (before : Disk) (head : Head) (content : List ℕ) → conn.old.held.stage ≡ Asking (number_of conn.old.held.stage) (Complete head content) → form ≡ form_of (settings_at site.now (Some (arrival_of conn.old.held)) (Some head)).request_limit (number_of conn.old.held.stage) head → tag.now ≡ (settings_at site.now (Some (arrival_of conn.old.held)) (Some head)).tag →
         (F.tells → Fits before.table conn.old.held) →
-        (F.tells → Plans planned (served site.now) (Some (arrival_of conn.old.held)) conn.old.held.link (number_of conn.old.held.stage) head before (F.disk files.old)) →
-        SettlesTo true (served site.now) conn.old.held conn.new.held result F.tells before (F.disk files.new) }
+        (F.tells → PlansOutcome outcome site.now (Some (arrival_of conn.old.held)) conn.old.held.link (number_of conn.old.held.stage) head before (F.disk files.old)) →
+        SettlesTo true site.now conn.old.held conn.new.held result F.tells before (F.disk files.new) }
     ensures link { conn.new.held.link ≡ conn.old.held.link }
     ensures waits { WaitsOn result conn.new.held }
     ensures filled { store.new.filled ≤ store.old.filled + REPLY_FILL }
@@ -198,10 +186,9 @@ fn serve<F: Files>(
     ensures reads { F.reads files.new ≡ F.reads files.old }
     ensures later { F.later files.old files.new }
 {
-    match planned {
-        Planned::Error(status) => refuse(conn, site, store, tag, form, status),
-        Planned::File { file, size } => send_file(conn, site, store, files, tag, form, file, size),
-        Planned::NoMemory => Some(Ending::NoMemory),
+    match outcome {
+        Outcome::Error(status) => refuse(conn, site, store, tag, form, status),
+        Outcome::File { file, size } => send_file(conn, site, store, files, tag, form, file, size),
     }
 }
 
@@ -224,7 +211,7 @@ fn refuse(
     ensures filled { store.new.filled ≤ store.old.filled + REPLY_FILL }
     ensures kept { Kept store.old conn.old.numbers store.new conn.new.numbers }
 {
-    let Ok(text) = site.replies.error(site.alloc, tag, form, status) else {
+    let Ok(text) = site.error_reply(tag, form, status) else {
         return Some(Ending::NoMemory);
     };
     give(conn, store, text.bytes(), Chunks::new(), None, form.last)
@@ -247,10 +234,10 @@ fn send_file<F: Files>(
     requires number { form.last ≡ false → number_of conn.old.held.stage < 2 ^ 32 - 1 }
     requires size { size < 2 ^ 62 }
     requires opened { F.tells → IsOpenAt file.0 (F.disk files.old) }
-    ensures settles { (before : Disk) (head : Head) (content : List ℕ) → conn.old.held.stage ≡ Asking (number_of conn.old.held.stage) (Complete head content) → form ≡ form_of (settings_at (served site.now) (Some (arrival_of conn.old.held)) (Some head)).request_limit (number_of conn.old.held.stage) head → tag.now ≡ (settings_at (served site.now) (Some (arrival_of conn.old.held)) (Some head)).tag →
+    ensures settles { (before : Disk) (head : Head) (content : List ℕ) → conn.old.held.stage ≡ Asking (number_of conn.old.held.stage) (Complete head content) → form ≡ form_of (settings_at site.now (Some (arrival_of conn.old.held)) (Some head)).request_limit (number_of conn.old.held.stage) head → tag.now ≡ (settings_at site.now (Some (arrival_of conn.old.held)) (Some head)).tag →
         (F.tells → Fits before.table conn.old.held) →
-        (F.tells → PlansFile file.0 size (served site.now) (Some (arrival_of conn.old.held)) conn.old.held.link (number_of conn.old.held.stage) head before (F.disk files.old)) →
-        SettlesTo true (served site.now) conn.old.held conn.new.held result F.tells before (F.disk files.new) }
+        (F.tells → PlansFile file.0 size site.now (Some (arrival_of conn.old.held)) conn.old.held.link (number_of conn.old.held.stage) head before (F.disk files.old)) →
+        SettlesTo true site.now conn.old.held conn.new.held result F.tells before (F.disk files.new) }
     ensures link { conn.new.held.link ≡ conn.old.held.link }
     ensures waits { WaitsOn result conn.new.held }
     ensures filled { store.new.filled ≤ store.old.filled + REPLY_FILL }
@@ -258,7 +245,7 @@ fn send_file<F: Files>(
     ensures reads { F.reads files.new ≡ F.reads files.old }
     ensures later { F.later files.old files.new }
 {
-    let Ok(head) = site.replies.file_head(site.alloc, tag, form, size) else {
+    let Ok(head) = site.file_head(tag, form, size) else {
         files.release(file);
         return Some(Ending::NoMemory);
     };

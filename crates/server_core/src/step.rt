@@ -8,14 +8,13 @@ ghost use Rattle.server_model.specs.Due.{DueRead, DueWrite};
 ghost use Rattle.server_model.specs.Turns.{Seen, ReadsOne, DueOn, GoesBy};
 ghost use Rattle.server_model.specs.Steps.{room_of, wants_read, wrote};
 ghost use Rattle.server_core.specs.Offers.{OffersOn, GainsWrites};
-ghost use Rattle.server_core.specs.Served.{served};
 ghost use Rattle.server_core.specs.Steps.{IsResting, WaitsOn, FailsFor, done_file, event_of, seen_as};
 
 use crate::settle::settle;
-use crate::site::Site;
 use chunkqueue::{BUFFER_SIZE, Store};
 use connection::Conn;
 use lt_world::{Ending, Files, Got, Net, Took};
+use request_plan::Site;
 
 /// Bytes that are copied into buffers in one turn, at most: 4,096 of one read or of one range, and those of what follows:
 /// 65,536 that are held of the input, 25 of 100 (Continue), 65,536 of a reply's head and 8,192 before its body.
@@ -89,7 +88,7 @@ pub(crate) fn step_for<N: Net, F: Files>(
     // What is seen later tells of a failed read too.
     ensures goes { (later : Seen) → F.faults files.new ≤ later.faults → later.reads ≡ F.reads files.new →
         GoesBy Stands (DueOn (event_of ready) (seen_as (F.disk files.old) (F.faults files.old) (F.reads files.old)) later conn.old.held.link)
-        (served site.now) conn.old.held conn.new.held result N.tells F.tells (F.disk files.old) (F.disk files.new) (N.trace net.old) (N.trace net.new) }
+        site.now conn.old.held conn.new.held result N.tells F.tells (F.disk files.old) (F.disk files.new) (N.trace net.old) (N.trace net.new) }
     ensures link { conn.new.held.link ≡ conn.old.held.link }
     ensures waits { WaitsOn result conn.new.held }
     ensures filled { store.new.filled ≤ store.old.filled + TURN_FILL }
@@ -122,7 +121,7 @@ fn read_for<N: Net, F: Files>(
     requires counted { HeldWithin store.old (length conn.old.numbers) }
     requires resting { IsResting conn.old.held }
     requires fits { F.tells → Fits (F.disk files.old).table conn.old.held }
-    ensures goes { GoesBy Stands DueRead (served site.now) conn.old.held conn.new.held result N.tells F.tells
+    ensures goes { GoesBy Stands DueRead site.now conn.old.held conn.new.held result N.tells F.tells
         (F.disk files.old) (F.disk files.new) (N.trace net.old) (N.trace net.new) }
     ensures link { conn.new.held.link ≡ conn.old.held.link }
     ensures waits { WaitsOn result conn.new.held }
@@ -169,7 +168,7 @@ fn receive<N: Net, F: Files>(
     requires some { 0 < length buf.old }
     requires within { length buf.old ≤ room_of conn.old.held }
     requires most { length buf.old ≤ BUFFER_SIZE }
-    ensures goes { GoesBy Stands DueRead (served site.now) conn.old.held conn.new.held result N.tells F.tells
+    ensures goes { GoesBy Stands DueRead site.now conn.old.held conn.new.held result N.tells F.tells
         (F.disk files.old) (F.disk files.new) (N.trace net.old) (N.trace net.new) }
     ensures link { conn.new.held.link ≡ conn.old.held.link }
     ensures waits { WaitsOn result conn.new.held }
@@ -216,7 +215,7 @@ fn write_for<N: Net, F: Files>(
     // What is seen later tells of a failed read too.
     ensures goes { (later : Seen) → F.faults files.new ≤ later.faults → later.reads ≡ F.reads files.new →
         GoesBy Stands (DueWrite (ReadsOne (seen_as (F.disk files.old) (F.faults files.old) (F.reads files.old)) later) (FailsFor conn.old.held.link (seen_as (F.disk files.old) (F.faults files.old) (F.reads files.old)) later))
-        (served site.now) conn.old.held conn.new.held result N.tells F.tells (F.disk files.old) (F.disk files.new) (N.trace net.old) (N.trace net.new) }
+        site.now conn.old.held conn.new.held result N.tells F.tells (F.disk files.old) (F.disk files.new) (N.trace net.old) (N.trace net.new) }
     ensures link { conn.new.held.link ≡ conn.old.held.link }
     ensures waits { WaitsOn result conn.new.held }
     ensures filled { store.new.filled ≤ store.old.filled + TURN_FILL }

@@ -6,17 +6,16 @@ ghost use Rattle.server_model.specs.Files.{IsTable, Backs};
 ghost use Rattle.server_model.specs.Turns.{TurnsOn};
 ghost use Rattle.server_core.specs.Offers.{OffersIn, GainsWrites};
 ghost use Rattle.server_core.specs.Places.{ArePlaces};
-ghost use Rattle.server_core.specs.Served.{served};
 ghost use Rattle.server_core.specs.Steps.{event_of, seen_as};
 ghost use Rattle.server_core.specs.Table.{helds, offers_of, serving, Rising, IsKept};
 
 use crate::client::Client;
 use crate::places::{CONNECTION_LIMIT, put_in, take_out};
-use crate::site::Site;
 use crate::step::{Ready, TURN_FILL, finish, step_for};
 use chunkqueue::{BUFFER_SIZE, Store};
 use connection::Conn;
 use lt_world::{Address, Ending, Files, Link, Net};
+use request_plan::Site;
 
 /// A client that arrives: its link, its address and the one that it came to.
 #[derive(Clone, Copy)]
@@ -64,7 +63,7 @@ pub(crate) fn accept_on<N: Net, F: Files>(
     requires places { ArePlaces clients.old.items places.old.items (vec_capacity clients.old) (vec_capacity places.old) }
     requires table { IsTable arrival.link.0 (helds clients.old.items) }
     requires backs { F.tells → Backs (F.disk files.now).table (helds clients.old.items) }
-    ensures turn { TurnsOn (Accepted arrival.peer arrival.local) arrival.link.0 (serving (served site.now) clients.old.items) (serving (served site.now) clients.new.items) N.tells F.tells
+    ensures turn { TurnsOn (Accepted arrival.peer arrival.local) arrival.link.0 (serving site.now clients.old.items) (serving site.now clients.new.items) N.tells F.tells
         (seen_as (F.disk files.now) (F.faults files.now) (F.reads files.now)) (seen_as (F.disk files.now) (F.faults files.now) (F.reads files.now))
         (N.trace net.old) (N.trace net.new) }
     ensures filled { store.new.filled ≡ store.old.filled }
@@ -86,7 +85,7 @@ pub(crate) fn accept_on<N: Net, F: Files>(
         clients,
         places,
         store,
-        Conn::new(site.alloc, link, peer, local),
+        Conn::new(site.alloc(), link, peer, local),
     );
 }
 
@@ -108,7 +107,7 @@ pub(crate) fn step_on<N: Net, F: Files>(
     requires kept { IsKept store.old clients.old.items }
     requires places { ArePlaces clients.old.items places.old.items (vec_capacity clients.old) (vec_capacity places.old) }
     requires backs { F.tells → Backs (F.disk files.old).table (helds clients.old.items) }
-    ensures turn { TurnsOn (event_of ready) link.0 (serving (served site.now) clients.old.items) (serving (served site.now) clients.new.items) N.tells F.tells
+    ensures turn { TurnsOn (event_of ready) link.0 (serving site.now clients.old.items) (serving site.now clients.new.items) N.tells F.tells
         (seen_as (F.disk files.old) (F.faults files.old) (F.reads files.old)) (seen_as (F.disk files.new) (F.faults files.new) (F.reads files.new))
         (N.trace net.old) (N.trace net.new) }
     ensures filled { store.new.filled ≤ store.old.filled + TURN_FILL }
@@ -129,7 +128,7 @@ pub(crate) fn step_on<N: Net, F: Files>(
         return;
     };
     finish(
-        take_out(clients, places, site.alloc, i),
+        take_out(clients, places, site.alloc(), i),
         store,
         net,
         files,

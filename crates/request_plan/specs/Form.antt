@@ -3,7 +3,7 @@ use Rattle.std.specs.Prelude.{ℕ, true, false, Option, Some, None}
 use Rattle.server_model.specs.Request.{Head}
 use Rattle.server_model.specs.Plan.{is_head}
 use Rattle.server_model.specs.Settings.{is_last_request}
-use Rattle.server_core.specs.declared.form.Form.{Form}
+use Rattle.request_plan.specs.declared.form.Form.{Form}
 
 -- the reply to request k, where a connection may send so many
 abbrev pub form_of : ℕ → ℕ → Head → Form

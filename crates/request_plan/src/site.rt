@@ -1,26 +1,45 @@
 //! What a server serves.
 ghost use Rattle.std.specs.Prelude.{◌≡◌, IfOk};
 ghost use Rattle.server_model.specs.Settings.{global_alone};
+ghost use Rattle.server_model.specs.Site.{site_at};
 
 use crate::replies::Replies;
 use conf_value::{Block, Config, Truth};
 use lt_bytes::{List, NoMemory};
 use std::alloc::Global;
+use std::marker::Model;
 
-/// The configuration, and what all replies share.
+/// The configuration, which is lent, and what all replies share.
 #[derive(Drop)]
-pub(crate) struct Site<'c> {
+pub struct Site<'c> {
     pub(crate) alloc: Global,
     pub(crate) config: &'c Config,
-    /// The truth of each block.
+    // The truth of each block.
     pub(crate) truths: List<Truth>,
     pub(crate) replies: Replies,
-    ghost truths_are: { truths ≡ global_alone config.now.blocks },
+}
+
+impl<'c> Model for Site<'c> {
+    ghost use Rattle.server_model.specs.Site.{Site};
+
+    ghost Value = { Site };
+
+    ghost use Rattle.conf_value.specs.contracts.value.Value as values;
+    ghost use Rattle.std.specs.Coded.{codes};
+
+    ghost coded = { Prim.hlevel (codes, values.the_row.coded) };
+
+    ghost use Rattle.request_plan.specs.Served.{served, HasTruths};
+
+    ghost view = { served };
+
+    ghost invariant = { HasTruths };
 }
 
 impl<'c> Site<'c> {
-    pub(crate) fn new(alloc: Global, config: &'c Config) -> Result<Site<'c>, NoMemory>
-        ensures config { IfOk result (λ site. site.config.now ≡ config.now) }
+    /// What a configuration says.
+    pub fn new(alloc: Global, config: &'c Config) -> Result<Site<'c>, NoMemory>
+        ensures site { IfOk result (λ site. site ≡ site_at config.now.blocks) }
     {
         Ok(Site {
             alloc,
@@ -28,6 +47,11 @@ impl<'c> Site<'c> {
             truths: global_alone(alloc, config.blocks.as_slice())?,
             replies: Replies::new(alloc)?,
         })
+    }
+
+    /// Where its memory comes from.
+    pub fn alloc(&self) -> Global {
+        self.alloc
     }
 }
 

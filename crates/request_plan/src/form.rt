@@ -2,24 +2,24 @@
 ghost use Rattle.std.specs.Prelude.{◌≡◌, option_map};
 ghost use Rattle.server_model.specs.Settings.{is_last_request, is_reached};
 ghost use Rattle.server_model.specs.Plan.{is_head, is_served};
-ghost use Rattle.server_core.specs.Form.{form_of, refused_form};
+ghost use Rattle.request_plan.specs.Form.{form_of, refused_form};
 
 use http_head::Request;
 
 /// How the reply to a request is spelled, whatever it says.
 #[derive(Clone, Copy)]
-pub(crate) struct Form {
+pub struct Form {
     /// The version is HTTP/1 and this.
-    pub(crate) minor: u8,
+    pub minor: u8,
     /// No further request is served on the connection.
-    pub(crate) last: bool,
+    pub last: bool,
     /// HEAD asks for the head alone.
-    pub(crate) head_only: bool,
+    pub head_only: bool,
 }
 
 impl Form {
     /// That of the reply to a request of this number, counted from 0, where a connection may send so many.
-    pub(crate) fn of(request: &Request, number: u32, limit: u64) -> Form
+    pub fn of(request: &Request, number: u32, limit: u64) -> Form
         ensures form { result ≡ form_of limit number request.now }
     {
         Form {
@@ -30,7 +30,7 @@ impl Form {
     }
 
     /// That of the reply to a request that is refused, of which the head was read or not: it is the last.
-    pub(crate) fn of_refused(request: Option<&Request>) -> Form
+    pub fn of_refused(request: Option<&Request>) -> Form
         ensures form { result ≡ refused_form (option_map (λ r. r.now) request.entry) }
     {
         match request {

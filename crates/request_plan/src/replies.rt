@@ -4,12 +4,13 @@ ghost use Rattle.server_model.specs.Plan.{error_fields, file_fields};
 ghost use Rattle.server_model.specs.Reply.{error_bytes, content_head};
 
 use crate::form::Form;
+use crate::site::Site;
 use http_reply::{Fields, Spelling, error_reply, reply_head};
 use lt_bytes::{NoMemory, Text};
 use std::alloc::Global;
 
 /// A bound on the bytes of a reply that the server spells itself.
-pub(crate) const REPLY_LIMIT: usize = 65_536;
+pub const REPLY_LIMIT: usize = 65_536;
 
 /// The fields of an error reply, those that name what is allowed instead, and those before a file.
 #[derive(Drop)]
@@ -45,14 +46,7 @@ impl Replies {
         }
     }
 
-    /// An error reply, whole.
-    pub(crate) fn error(
-        &self,
-        alloc: Global,
-        tag: &[u8],
-        form: Form,
-        status: u16,
-    ) -> Result<Text, NoMemory>
+    fn error(&self, alloc: Global, tag: &[u8], form: Form, status: u16) -> Result<Text, NoMemory>
         ensures spelled { IfOk result (λ text. text ≡ error_bytes tag.now form.minor status (error_fields status) form.last form.head_only) }
         ensures short { IfOk result (λ text. length text ≤ REPLY_LIMIT) }
     {
@@ -60,18 +54,29 @@ impl Replies {
         short(error_reply(alloc, &spelling, self.error_fields(status), form.head_only)?)
     }
 
-    /// The head before a file of so many bytes.
-    pub(crate) fn file_head(
-        &self,
-        alloc: Global,
-        tag: &[u8],
-        form: Form,
-        size: u64,
-    ) -> Result<Text, NoMemory>
+    fn file_head(&self, alloc: Global, tag: &[u8], form: Form, size: u64) -> Result<Text, NoMemory>
         ensures spelled { IfOk result (λ text. text ≡ content_head tag.now form.minor 200 file_fields size form.last) }
         ensures short { IfOk result (λ text. length text ≤ REPLY_LIMIT) }
     {
         short(reply_head(alloc, &spelling(tag, form, 200, Some(size)), &self.content)?)
+    }
+}
+
+impl Site<'_> {
+    /// An error reply, whole.
+    pub fn error_reply(&self, tag: &[u8], form: Form, status: u16) -> Result<Text, NoMemory>
+        ensures spelled { IfOk result (λ text. text ≡ error_bytes tag.now form.minor status (error_fields status) form.last form.head_only) }
+        ensures short { IfOk result (λ text. length text ≤ REPLY_LIMIT) }
+    {
+        self.replies.error(self.alloc, tag, form, status)
+    }
+
+    /// The head before a file of so many bytes.
+    pub fn file_head(&self, tag: &[u8], form: Form, size: u64) -> Result<Text, NoMemory>
+        ensures spelled { IfOk result (λ text. text ≡ content_head tag.now form.minor 200 file_fields size form.last) }
+        ensures short { IfOk result (λ text. length text ≤ REPLY_LIMIT) }
+    {
+        self.replies.file_head(self.alloc, tag, form, size)
     }
 }
 

@@ -1,0 +1,4 @@
+pub mod Form
+pub mod Lent
+pub mod Planned
+pub mod Served
