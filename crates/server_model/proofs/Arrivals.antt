@@ -73,7 +73,7 @@ no_files link disk table next now none here file =
 arrived_fits : (link : ℕ) (disk : Disk) (peer local : Address) (next : List Held) → kept_at link next ≡ Some (arrived link peer local) → FitsFor disk.table (kept_at link next)
 arrived_fits link disk peer local next here = subst (FitsFor disk.table) (sym here) (record { is_open = tt; owed = tt })
 
-module _ (link : ℕ) (peer local : Address) (site : Site) (table next : List Held) (net files : Type 0) (seen : Seen) (old now : List Entry) (none : kept_at link table ≡ None) where
+module _ (link : ℕ) (peer local : Address) (site : Site) (table next : List Held) (net files : Type 0) (spare : ℕ) (seen : Seen) (old now : List Entry) (none : kept_at link table ≡ None) where
   module _ (new : Held) (is : new ≡ arrived link peer local) (pushed : next ≡ table ++ new ∷ []) where
     pub came_changes : Changes link table next (Some (arrived link peer local))
     came_changes = adds link table none (arrived link peer local) next (pushed ∙ ap (λ h. table ++ h ∷ []) is) refl
@@ -81,7 +81,7 @@ module _ (link : ℕ) (peer local : Address) (site : Site) (table next : List He
     pub came_backs : Backs seen.disk.table table → Backs seen.disk.table next
     came_backs backs = backs_on link seen.disk seen.disk table next backs (no_files link seen.disk table next (Some (arrived link peer local)) none came_changes.here refl) (arrived_fits link seen.disk peer local next came_changes.here) came_changes.others
 
-    pub turn_came : length table < connection_limit → (files → Backs seen.disk.table table) → TurnsOn (Accepted peer local) link (record { site = site; table = table }) (record { site = site; table = next }) net files seen seen old old
+    pub turn_came : length table < connection_limit → (files → Backs seen.disk.table table) → TurnsOn (Accepted peer local) link (record { site = site; table = table }) (record { site = site; table = next }) net files spare seen seen old old
     turn_came room backs n f trace gained fresh serves =
         let one : own link (told link (Ours (Accepted peer local) ∷ []) trace) ≡ Ours (Accepted peer local) ∷ own link trace = own-told link (Ours (Accepted peer local) ∷ []) trace (refl, tt) in
         let stands = came_stands site link peer local seen.disk table trace none fresh serves in
@@ -105,7 +105,7 @@ module _ (link : ℕ) (peer local : Address) (site : Site) (table next : List He
 
   -- it is closed at once
   module _ (e : Ending) (unclean : e ≡ ending.Clean → ⊥) (due : (past : List Deed) → DueArrival (length table) peer local past (Ours (Close e) ∷ Ours (Accepted peer local) ∷ past)) (same : next ≡ table) (gains : net → now ≡ told link (Ours (Close e) ∷ []) old) where
-    turn_closed : (files → Backs seen.disk.table table) → TurnsOn (Accepted peer local) link (record { site = site; table = table }) (record { site = site; table = next }) net files seen seen old now
+    turn_closed : (files → Backs seen.disk.table table) → TurnsOn (Accepted peer local) link (record { site = site; table = table }) (record { site = site; table = next }) net files spare seen seen old now
     turn_closed backs n f trace gained fresh serves =
         let two : own link (told link (Ours (Close e) ∷ Ours (Accepted peer local) ∷ []) trace) ≡ Ours (Close e) ∷ Ours (Accepted peer local) ∷ own link trace =
         own-told link (Ours (Close e) ∷ Ours (Accepted peer local) ∷ []) trace (refl, (refl, tt)) in
@@ -140,5 +140,5 @@ module _ (link : ℕ) (peer local : Address) (site : Site) (table next : List He
 
   -- as one too many
   pub turn_full : connection_limit ≤ length table → next ≡ table → (net → now ≡ told link (Ours (Close ending.Full) ∷ []) old) → (files → Backs seen.disk.table table)
-      → TurnsOn (Accepted peer local) link (record { site = site; table = table }) (record { site = site; table = next }) net files seen seen old now
+      → TurnsOn (Accepted peer local) link (record { site = site; table = table }) (record { site = site; table = next }) net files spare seen seen old now
   turn_full limit same gains = turn_closed ending.Full (λ e. cc (e)) (λ past. DueArrival.full limit) same gains

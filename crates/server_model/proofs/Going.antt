@@ -1,5 +1,5 @@
 -- Steps that leave the client open, or say how it is to be closed.
-use Rattle.std.proofs.Common.{◌≡◌, ℕ, ◌-◌, ap, List, [], ◌∷◌, ◌++◌, Bool, false, Option, Some, None, refl, sym, ◌∙◌, subst}
+use Rattle.std.proofs.Common.{◌≡◌, ℕ, ◌-◌, ap, List, [], ◌∷◌, ◌++◌, Bool, true, false, Option, Some, None, refl, sym, ◌∙◌, subst}
 use Rattle.lt_world.specs.declared.net.Ending.{Ending}
 use Rattle.lt_world.specs.declared.net.Ending.TheVariants as ending
 use Rattle.lt_world.specs.Disk.{Disk, Table}
@@ -8,17 +8,24 @@ use Rattle.server_model.specs.Site.{Site}
 use Rattle.server_model.specs.World.{World, world_of}
 use Rattle.server_model.specs.Deeds.{Deed, Ours, ours, told, AreDeeds}
 use Rattle.server_model.specs.Open.{open_clients}
-use Rattle.server_model.specs.Client.{has_failed, IsFinished, IsRight}
+use Rattle.server_model.specs.Client.{has_failed, IsFinished}
 use Rattle.server_model.specs.Held.{Held}
 use Rattle.server_model.specs.Files.{FileStep, Drops}
 use Rattle.server_model.specs.Serves.{Matches, IsGone}
-use Rattle.server_model.specs.Due.{Settles}
+use Rattle.server_model.specs.Due.{MayYield, Settles}
 use Rattle.server_model.specs.Turns.{StepsBy, StopsBy, GoesBy}
-use Rattle.server_model.specs.Settling.{SettlesOn, SettlesOut, MayEnd, SettlesTo}
+use Rattle.server_model.specs.Settling.{SettlesOn, EndsAs, SettlesOut, MayEnd, SettlesTo}
 use Rattle.server_model.proofs.FileSteps.{drops, and_then}
 use Rattle.server_model.proofs.Settled.{closes}
 use Rattle.server_model.proofs.Standing.{stands_rests}
 use Rattle.server_model.proofs.Stepping.{drops_world}
+
+-- memory may be wanted in more cases
+pub settles_more : (world : World) (a b : Bool) → (a ≡ true → b ≡ true) → (past now : List Deed) → Settles world a past now → Settles world b past now
+settles_more world a b weaker past now (Settles.rests r) = Settles.rests r
+settles_more world a b weaker past now (Settles.finishes f s) = Settles.finishes f s
+settles_more world a b weaker past now (Settles.fails f) = Settles.fails f
+settles_more world a b weaker past now (Settles.yields m u) = Settles.yields (weaker m) u
 
 module _ (From : Table → World → Held → List Act → Type 0) (due : World → World → List Deed → List Deed → Type 0) (site : Site) (held new : Held) (e : Ending) (net files : Type 0) (before between after : Disk) (old then now : List Entry) where
   -- it is closed so, and its file given back
@@ -61,14 +68,14 @@ module _ (From : Table → World → Held → List Act → Type 0) (due : World 
         (stands, dues f past (deeds ++ past) start (Settles.rests (stands_rests after.table (world_of site after held.link (deeds ++ past)) new (deeds ++ past) stands)));
   }
 
-  settles_by : (e : Ending) → MayEnd may e → (world : World) (deeds : List Deed) → has_failed (ours deeds) ≡ false → (e ≡ ending.Clean → IsFinished world (ours deeds)) → Settles world may deeds (Ours (Close e) ∷ deeds)
-  settles_by ending.Clean allowed world deeds sound clean = Settles.finishes (clean refl) sound
-  settles_by ending.ClientFault allowed world deeds sound clean = absurd allowed
-  settles_by ending.FileFault allowed world deeds sound clean = absurd allowed
-  settles_by ending.GatewayCut allowed world deeds sound clean = absurd allowed
-  settles_by ending.Full allowed world deeds sound clean = absurd allowed
-  settles_by ending.NoMemory allowed world deeds sound clean = Settles.yields allowed
-  settles_by ending.Gate allowed world deeds sound clean = absurd allowed
+  settles_by : (e : Ending) → MayEnd may e → (world : World) (deeds : List Deed) → has_failed (ours deeds) ≡ false → (e ≡ ending.Clean → IsFinished world (ours deeds)) → (e ≡ ending.NoMemory → MayYield world (ours deeds)) → Settles world may deeds (Ours (Close e) ∷ deeds)
+  settles_by ending.Clean allowed world deeds sound clean yields = Settles.finishes (clean refl) sound
+  settles_by ending.ClientFault allowed world deeds sound clean yields = absurd allowed
+  settles_by ending.FileFault allowed world deeds sound clean yields = absurd allowed
+  settles_by ending.GatewayCut allowed world deeds sound clean yields = absurd allowed
+  settles_by ending.Full allowed world deeds sound clean yields = absurd allowed
+  settles_by ending.NoMemory allowed world deeds sound clean yields = Settles.yields allowed (yields refl)
+  settles_by ending.Gate allowed world deeds sound clean yields = absurd allowed
 
   settles_out : (e : Ending) → SettlesOut may site mid new e files before after → StopsBy From due site held new e net files before after old now
   settles_out e s = record {
@@ -80,9 +87,9 @@ module _ (From : Table → World → Held → List Act → Type 0) (due : World 
     does = λ f. files_from (s.does f);
     keeps = λ f past start.
         let m = from f past start in
-        let P : ℕ → Type 0 = λ l. Matches before.table (world_of site before l (deeds ++ past)) mid (ours (deeds ++ past)) → IsRight (world_of site after l (deeds ++ past)) (ours (deeds ++ past)) × (e ≡ ending.Clean → IsFinished (world_of site after l (deeds ++ past)) (ours (deeds ++ past))) in
+        let P : ℕ → Type 0 = λ l. Matches before.table (world_of site before l (deeds ++ past)) mid (ours (deeds ++ past)) → EndsAs e (world_of site after l (deeds ++ past)) (ours (deeds ++ past)) in
         let k = subst P link (s.keeps f (deeds ++ past)) m in
-        (k.0, k.1, dues f past (Ours (Close e) ∷ deeds ++ past) start (settles_by e s.allowed (world_of site after held.link (deeds ++ past)) (deeds ++ past) m.sound k.1));
+        (k.0, k.1, dues f past (Ours (Close e) ∷ deeds ++ past) start (settles_by e s.allowed (world_of site after held.link (deeds ++ past)) (deeds ++ past) m.sound k.1 k.2));
   }
 
   pub then_settles : (result : Option Ending) → SettlesTo may site mid new result files before after → GoesBy From due site held new result net files before after old now

@@ -16,6 +16,7 @@ pub mod Moves
 pub mod Advances
 pub mod Settled
 pub mod Standing
+pub mod Wanting
 pub mod Sides
 pub mod Stepping
 pub mod Going

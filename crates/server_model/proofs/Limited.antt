@@ -30,7 +30,7 @@ settles_none : (world : World) (may : Bool) (past now : List Deed) → Settles w
 settles_none world may past now (rests r) = ([], refl, λ n. omega arith)
 settles_none world may past now (finishes f s) = (Ours (Close ending.Clean) ∷ [], refl, λ n. omega arith)
 settles_none world may past now (fails f) = (Ours (Close ending.ClientFault) ∷ [], refl, λ n. omega arith)
-settles_none world may past now (yields m) = (Ours (Close ending.NoMemory) ∷ [], refl, λ n. omega arith)
+settles_none world may past now (yields m u) = (Ours (Close ending.NoMemory) ∷ [], refl, λ n. omega arith)
 
 count_append : (xs ys : List Deed) (n : ℕ) → count_after (xs ++ ys) n ≡ count_after xs (count_after ys n)
 count_append [] ys n = refl
@@ -65,9 +65,9 @@ writes_same owed (Wrote offered bytes) is n = refl
 writes_same owed (Connect owner to link) is n = absurd is
 writes_same owed (Close e) is n = absurd is
 
-read_none : (before after : World) (past now : List Deed) → DueRead before after past now → AddsNone past now
-read_none before after past now (DueRead.idle w) = ([], refl, λ n. omega arith)
-read_none before after past now (DueRead.reads act w a s) = after_act act past now (reads_same act a) (settles_none _ _ _ _ s)
+read_none : (spare : ℕ) (before after : World) (past now : List Deed) → DueRead spare before after past now → AddsNone past now
+read_none spare before after past now (DueRead.idle w) = ([], refl, λ n. omega arith)
+read_none spare before after past now (DueRead.reads act w a s) = after_act act past now (reads_same act a) (settles_none _ _ _ _ s)
 
 write_none : (sound : Type 0) (failed : ℕ → Type 0) (before after : World) (past now : List Deed) → DueWrite sound failed before after past now → AddsNone past now
 write_none sound failed before after past now (DueWrite.idle w o) = ([], refl, λ n. omega arith)
@@ -103,28 +103,28 @@ module _ (client : ℕ) (deeds : List Deed) (old now : List Entry) (are : AreDee
       ap open_clients gains ∙ count_told client deeds (record { link = client; act = Accepted peer local } ∷ old) ∙ ap (λ d. count_after d (open_clients old + 1)) front in
       omega (arith, count, a.2 within)
 
-  due_within : (event : Act) (unread sound : Type 0) (failed : ℕ → Type 0) (before after : World) → Due (open_clients old) event unread sound failed before after (own client old) (own client now)
+  due_within : (event : Act) (spare : ℕ) (unread sound : Type 0) (failed : ℕ → Type 0) (before after : World) → Due (open_clients old) event spare unread sound failed before after (own client old) (own client now)
       → now ≡ told client deeds (record { link = client; act = event } ∷ old) → open_clients now ≤ connection_limit
-  due_within (Accepted peer local) unread sound failed before after due gains = arrives_within peer local due.1 gains
-  due_within Readable unread sound failed before after due gains = stays_within Readable (own client old) refl refl (read_none before after (own client old) (own client now) due.1) gains
-  due_within Writable unread sound failed before after due gains = stays_within Writable (own client old) refl refl (write_none sound failed before after (own client old) (own client now) due) gains
-  due_within (Read asked bytes) unread sound failed before after due gains = absurd due
-  due_within ReadEnd unread sound failed before after due gains = absurd due
-  due_within (NotYet way) unread sound failed before after due gains = absurd due
-  due_within (Failed way) unread sound failed before after due gains = absurd due
-  due_within (Wrote offered bytes) unread sound failed before after due gains = absurd due
-  due_within (Connect owner to link) unread sound failed before after due gains = absurd due
-  due_within (Close e) unread sound failed before after due gains = absurd due
+  due_within (Accepted peer local) spare unread sound failed before after due gains = arrives_within peer local due.1 gains
+  due_within Readable spare unread sound failed before after due gains = stays_within Readable (own client old) refl refl (read_none spare before after (own client old) (own client now) due.1) gains
+  due_within Writable spare unread sound failed before after due gains = stays_within Writable (own client old) refl refl (write_none sound failed before after (own client old) (own client now) due) gains
+  due_within (Read asked bytes) spare unread sound failed before after due gains = absurd due
+  due_within ReadEnd spare unread sound failed before after due gains = absurd due
+  due_within (NotYet way) spare unread sound failed before after due gains = absurd due
+  due_within (Failed way) spare unread sound failed before after due gains = absurd due
+  due_within (Wrote offered bytes) spare unread sound failed before after due gains = absurd due
+  due_within (Connect owner to link) spare unread sound failed before after due gains = absurd due
+  due_within (Close e) spare unread sound failed before after due gains = absurd due
 
-turn_within : (site : Site) (event : Act) (link : ℕ) (parts : List Part) (before after : Seen) (old now : List Entry) → now ≡ all_told parts (record { link = link; act = event } ∷ old) → DueParts site event link parts before after old now
+turn_within : (site : Site) (event : Act) (link : ℕ) (parts : List Part) (spare : ℕ) (before after : Seen) (old now : List Entry) → now ≡ all_told parts (record { link = link; act = event } ∷ old) → DueParts site event link parts spare before after old now
     → open_clients old ≤ connection_limit → open_clients now ≤ connection_limit
-turn_within site event link [] before after old now gains due within = absurd due
-turn_within site event link (p ∷ []) before after old now gains due within =
-    due_within p.client p.deeds old now due.1 within event _ _ _ _ _ due.2 (gains ∙ ap (λ (l : ℕ). told p.client p.deeds (record { link = l; act = event } ∷ old)) (sym due.0))
-turn_within site event link (p ∷ q ∷ parts) before after old now gains due within = absurd due
+turn_within site event link [] spare before after old now gains due within = absurd due
+turn_within site event link (p ∷ []) spare before after old now gains due within =
+    due_within p.client p.deeds old now due.1 within event spare _ _ _ _ _ due.2 (gains ∙ ap (λ (l : ℕ). told p.client p.deeds (record { link = l; act = event } ∷ old)) (sym due.0))
+turn_within site event link (p ∷ q ∷ parts) spare before after old now gains due within = absurd due
 
 -- a run never opens more clients than the limit
 pub run_within : (site : Site) (before after : Told) → IsRun site before after → open_clients before.trace ≤ connection_limit → open_clients after.trace ≤ connection_limit
 run_within site before after none within = within
-run_within site before after (more {now = mid} run turn) within =
-    turn_within site turn.event turn.link turn.parts mid.seen after.seen mid.trace after.trace turn.gains turn.due (run_within site before mid run within)
+run_within site before after (more {now = mid} {spare = spare} run turn) within =
+    turn_within site turn.event turn.link turn.parts spare mid.seen after.seen mid.trace after.trace turn.gains turn.due (run_within site before mid run within)

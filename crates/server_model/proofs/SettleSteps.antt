@@ -2,8 +2,6 @@
 use Rattle.std.proofs.Common.{◌≡◌, ◌≤◌, ℕ, if◌then◌else◌, drop, List, [], ◌∷◌, ◌++◌, map, Bool, true, false, Option, Some, None, refl, sym, ◌∙◌, ap, subst, arith}
 use Rattle.lt_world.specs.declared.net.Ending.{Ending}
 use Rattle.lt_world.specs.declared.net.Ending.TheVariants as ending
-use Rattle.lt_world.specs.declared.files.FileCall.{FileCall}
-use Rattle.lt_world.specs.declared.files.FileCall.TheVariants as call
 use Rattle.lt_world.specs.Disk.{Disk, Table}
 use Rattle.server_model.specs.Deeds.{Deed, ours}
 use Rattle.server_model.specs.Settings.{settings_at, limit_for, is_last_request}
@@ -12,20 +10,22 @@ use Rattle.server_model.specs.Request.{Head, Complete, Refused, Declined}
 use Rattle.server_model.specs.World.{World, world_of, call_count, Arrival, side_of}
 use Rattle.server_model.specs.Plan.{Outcome, is_head, plan, calls_of}
 use Rattle.server_model.specs.Reply.{continue_bytes, continue_of, final_bytes, refusal_bytes}
-use Rattle.server_model.specs.Client.{AskedInTurn, IsFinished, IsRight}
+use Rattle.server_model.specs.Client.{AskedInTurn, IsRight}
 use Rattle.chunkqueue.specs.Items.{Item, Byte, FileByte, bytes_of}
 use Rattle.server_model.specs.Held.{Heading, Asking, Held, arrival_of}
-use Rattle.server_model.specs.Steps.{number_of, has_no_items, advanced, accepted, answered, wrote, took, without_file, is_in_memory, is_done}
+use Rattle.server_model.specs.Steps.{number_of, has_no_items, wants_memory, advanced, accepted, answered, wrote, took, without_file, is_in_memory, is_done}
 use Rattle.server_model.specs.Files.{AllFit, Fits, FileStep, Drops}
 use Rattle.server_model.specs.Planning.{Unasked, CallsFor, CallsWhole, PlansTo}
 use Rattle.server_model.specs.Serves.{IsAsking, IsAt, first_unasked, IsWaiting, Matches, Stands}
-use Rattle.server_model.specs.Settling.{SettlesOn, SettlesOut, MayEnd, SettlesTo}
+use Rattle.server_model.specs.Due.{MayYield}
+use Rattle.server_model.specs.Settling.{SettlesOn, EndsAs, SettlesOut, MayEnd, SettlesTo}
 use Rattle.server_model.proofs.FileSteps.{same_files, drops, and_then, items_alone}
 use Rattle.server_model.proofs.Clients.{IsSettled, IsFreed, given_back, advanced_link, advanced_file, accepted_stays, accepted_link, accepted_file}
 use Rattle.server_model.proofs.Moves.{matches_released}
 use Rattle.server_model.proofs.Advances.{matches_advanced, matches_accepted, asks_other, by_head, asked_planned, matches_planned, matches_answered}
 use Rattle.server_model.proofs.Settled.{at_prefix}
 use Rattle.server_model.proofs.Standing.{matches_right, matches_finished, matches_stands}
+use Rattle.server_model.proofs.Wanting.{matches_yields, asking_yields}
 use Rattle.server_model.proofs.Sides.{came_side}
 use Rattle.server_model.proofs.Stepping.{drops_world}
 
@@ -43,15 +43,15 @@ module _ (site : Site) (held : Held) (files : Type 0) (before : Disk) where
     allowed = tt;
     link = refl;
     does = λ f. same_files held.link before held.file;
-    keeps = λ f past m. (matches_right before.table (world_of site before held.link past) held (ours past) m, (λ e. matches_finished before.table (world_of site before held.link past) held (ours past) m settled done));
+    keeps = λ f past m. (matches_right before.table (world_of site before held.link past) held (ours past) m, (λ e. matches_finished before.table (world_of site before held.link past) held (ours past) m settled done), (λ e. absurd (cc (e))));
   }
 
-  pub settle_yields : (new : Held) → new.link ≡ held.link → new.file ≡ held.file → SettlesOut true site held new ending.NoMemory files before before
-  settle_yields new link file = record {
+  pub settle_yields : (new : Held) → wants_memory held ≡ true → new.link ≡ held.link → new.file ≡ held.file → SettlesOut true site held new ending.NoMemory files before before
+  settle_yields new wants link file = record {
     allowed = refl;
     link = link;
     does = λ f. subst (λ (o : Option ℕ). FileStep held.link held.file o before before) (sym file) (same_files held.link before held.file);
-    keeps = λ f past m. (matches_right before.table (world_of site before held.link past) held (ours past) m, (λ e. absurd (cc (e))));
+    keeps = λ f past m. (matches_right before.table (world_of site before held.link past) held (ours past) m, (λ e. absurd (cc (e))), (λ e. matches_yields before.table (world_of site before held.link past) held (ours past) m wants));
   }
 
 -- memory may be wanted in more cases
@@ -88,7 +88,7 @@ module _ (may : Bool) (site : Site) (held mid new : Held) (files : Type 0) (befo
     link = s.link ∙ link;
     does = λ f. files_then (s.does f) f;
     keeps = λ f past m.
-        let P : ℕ → Type 0 = λ l. Matches between.table (world_of site between l past) mid (ours past) → IsRight (world_of site after l past) (ours past) × (e ≡ ending.Clean → IsFinished (world_of site after l past) (ours past)) in
+        let P : ℕ → Type 0 = λ l. Matches between.table (world_of site between l past) mid (ours past) → EndsAs e (world_of site after l past) (ours past) in
         subst P link (s.keeps f past) (keeps f past m);
   }
 
@@ -139,6 +139,11 @@ module _ (site : Site) (held : Held) (before between : Disk) (past : List Deed) 
     in_turn = planned_turn calls m;
   }
 
+  -- so something is still to come
+  pub calls_yields : CallsFor site (Some (arrival_of held)) held.link (number_of held.stage) head file before between → Matches before.table (world_of site before held.link past) held (ours past) → MayYield (world_of site between held.link past) (ours past)
+  calls_yields calls m = asking_yields before.table (world_of site between held.link past) held (ours past) (number_of held.stage) (Complete head content)
+      (asks_other before.table between.table (world_of site before held.link past) (world_of site between held.link past) held (ours past) (number_of held.stage) (Complete head content) asking refl (calls.others (side_of past)) (calls.replies (side_of past)) (calls.plans (side_of past)) m) refl
+
   -- what is owed of what it was told first is in memory
   owed_stays : CallsFor site (Some (arrival_of held)) held.link (number_of held.stage) head file before between → Fits before.table held → Matches before.table (world_of site before held.link past) held (ours past) → bytes_of between.table held.owed ≡ bytes_of before.table held.owed
   owed_stays calls fits m =
@@ -179,7 +184,7 @@ plan_yields site held new files before after head content file asking link none 
   allowed = refl;
   link = link;
   does = λ f. let P : Option ℕ → Option ℕ → Type 0 = λ a b. FileStep held.link a b before after in subst (λ (a : Option ℕ). P a new.file) (sym none) (subst (P None) (sym new_file) (calls f).files);
-  keeps = λ f past m. (calls_right site held before after past head content file asking (calls f) m, (λ e. absurd (cc (e))));
+  keeps = λ f past m. (calls_right site held before after past head content file asking (calls f) m, (λ e. absurd (cc (e))), (λ e. calls_yields site held before after past head content file asking (calls f) m));
 }
 
 -- items in memory are the same bytes, whatever is open

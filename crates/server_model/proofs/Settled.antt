@@ -38,7 +38,7 @@ and_true true b is = (refl, is)
 and_true false b is = absurd (cc (is))
 
 -- the first of replies that are joined
-joined_first : (r : Reply) (rs : List Reply) → (rest : List ℕ) × (joined (r ∷ rs) ≡ r.bytes ++ rest)
+pub joined_first : (r : Reply) (rs : List Reply) → (rest : List ℕ) × (joined (r ∷ rs) ≡ r.bytes ++ rest)
 joined_first r rs = by (is_followed r)
   where
     by : (t : Bool) → (rest : List ℕ) × ((if t then r.bytes ++ joined rs else r.bytes) ≡ r.bytes ++ rest)
@@ -53,7 +53,7 @@ last_unfollowed r last = by (is_whole r.extent) r.last last
     by false true is = refl
     by a false is = absurd (cc (is))
 
-some_items : (items : List Item) → has_no_items items ≡ false → 0 < length items
+pub some_items : (items : List Item) → has_no_items items ≡ false → 0 < length items
 some_items [] is = absurd (cc (is))
 some_items (item ∷ items) is = omega arith
 
@@ -74,7 +74,7 @@ module _ (opened : Table) (world : World) (held : Held) (acts : List Act) where
   next_none k at is = ap (reply world k) (ap (request_of (limit_for world)) (sym at.input) ∙ nohead_unfinished (limit_for world) held.input is)
 
   -- a body isn't whole, so its request is open
-  open_now : (k : ℕ) (head : Head) (s : Standing) (content : List ℕ) → IsTaking opened world held acts k head s content → (held.input ≡ []) × (is_over s.state ≡ false) → next_request (limit_for world) (input_of acts) k ≡ Open head
+  pub open_now : (k : ℕ) (head : Head) (s : Standing) (content : List ℕ) → IsTaking opened world held acts k head s content → (held.input ≡ []) × (is_over s.state ≡ false) → next_request (limit_for world) (input_of acts) k ≡ Open head
   open_now k head s content at waiting =
       front_headed (limit_for world) (left_after (limit_for world) k (input_of acts)) head (at.read ++ held.input) at.front
       ∙ ap (headed (limit_for world) head) (ap (λ l. at.read ++ l) waiting.0 ∙ append-nil at.read)
@@ -82,7 +82,7 @@ module _ (opened : Table) (world : World) (held : Held) (acts : List Act) where
       ∙ ap (λ a. bodied head a (data_in (begin_of (limit_for world) head) at.read)) (open_more s.state waiting.1)
 
   -- a reply that was given, as what was told
-  abbrev answering_begun : (k : ℕ) (last : Bool) → IsAnswering opened world held acts k last → IsBegun opened world held acts k (next_reply world (input_of acts) k).bytes
+  abbrev pub answering_begun : (k : ℕ) (last : Bool) → IsAnswering opened world held acts k last → IsBegun opened world held acts k (next_reply world (input_of acts) k).bytes
   answering_begun k last at = record {
     before = at.before;
     taken = at.taken;
@@ -100,7 +100,7 @@ module _ (opened : Table) (world : World) (held : Held) (acts : List Act) where
     output_length : length (output_of acts) ≡ length b.before + length b.taken
     output_length = omega (arith, ap length b.output, length-append b.before b.taken)
 
-    all_taken : has_no_items held.owed ≡ true → b.taken ≡ told
+    pub all_taken : has_no_items held.owed ≡ true → b.taken ≡ told
     all_taken none = sym (append-nil b.taken) ∙ ap (λ (l : List Item). b.taken ++ bytes_of opened l) (sym (no_items held.owed none)) ∙ b.owed
 
     begun_prefix : (rest : List ℕ) → (next_reply world (input_of acts) k).bytes ≡ told ++ rest → IsPrefix (output_of acts) (stream world acts)
@@ -115,7 +115,7 @@ module _ (opened : Table) (world : World) (held : Held) (acts : List Act) where
         )
 
     -- something is owed, so not all was taken
-    begun_short : (rest : List ℕ) → (next_reply world (input_of acts) k).bytes ≡ told ++ rest → 0 < length held.owed → output_of acts ≡ stream world acts → ⊥
+    pub begun_short : (rest : List ℕ) → (next_reply world (input_of acts) k).bytes ≡ told ++ rest → 0 < length held.owed → output_of acts ≡ stream world acts → ⊥
     begun_short rest begins more taken =
         let s = passed_stream world (input_of acts) k b.before b.passed in
         let first = joined_first (next_reply world (input_of acts) k) s.0 in

@@ -59,9 +59,9 @@ serves_ready event link disk server trace ready serves = record {
 }
 
 module _ (event : Act) (ready : IsReady event)
-    (site : Site) (table next : List Held) (held : Held) (now : Option Held) (net files : Type 0) (before after : Seen) (old told_now : List Entry)
+    (site : Site) (table next : List Held) (held : Held) (now : Option Held) (net files : Type 0) (spare : ℕ) (before after : Seen) (old told_now : List Entry)
     (kept : kept_at held.link table ≡ Some held) (change : Changes held.link table next now) (backs : files → Backs before.disk.table table)
-    (step : StepsBy Stands (DueOn event before after held.link) site held now net files before.disk after.disk old told_now) where
+    (step : StepsBy Stands (DueOn event spare before after held.link) site held now net files before.disk after.disk old told_now) where
   stands : (trace : List Entry) → Serves before.disk (record { site = site; table = table }) trace → Stands before.disk.table (world_of site before.disk held.link (own held.link trace)) held (ours (own held.link trace))
   stands trace serves = let P : Option Held → Type 0 = λ k. StandsFor before.disk.table (world_of site before.disk held.link (own held.link trace)) k (own held.link trace) in subst P kept (serves.each held.link)
 
@@ -73,7 +73,7 @@ module _ (event : Act) (ready : IsReady event)
       ap (own held.link) (gains_now n trace gained) ∙ own-told held.link step.deeds (record { link = held.link; act = event } ∷ trace) step.are ∙ ap (λ d. step.deeds ++ d) (ready held.link held.link trace).0
 
   -- a step of a client that is kept is a turn of the server
-  pub turn_step : before.faults ≤ after.faults → TurnsOn event held.link (record { site = site; table = table }) (record { site = site; table = next }) net files before after old told_now
+  pub turn_step : before.faults ≤ after.faults → TurnsOn event held.link (record { site = site; table = table }) (record { site = site; table = next }) net files spare before after old told_now
   turn_step rises n f trace gained new serves =
       let both = step.keeps f (own held.link trace) (stands trace serves) in
       let here = subst (λ d. StandsFor after.disk.table (world_of site after.disk held.link (step.deeds ++ d)) now (step.deeds ++ d)) (sym (ready held.link held.link trace).0) both.0 in
@@ -89,7 +89,7 @@ module _ (event : Act) (ready : IsReady event)
           due = (
             refl,
             step.are,
-            subst (λ (d : List Deed). Due (open_clients trace) event (ReadsNone before after) (ReadsOne before after) (λ k. ReadFailed held.link k before after) (world_of site before.disk held.link (own held.link trace)) (world_of site after.disk held.link d) (own held.link trace) d) (sym (own_now n trace gained))
+            subst (λ (d : List Deed). Due (open_clients trace) event spare (ReadsNone before after) (ReadsOne before after) (λ k. ReadFailed held.link k before after) (world_of site before.disk held.link (own held.link trace)) (world_of site after.disk held.link d) (own held.link trace) d) (sym (own_now n trace gained))
                 (both.1 (open_clients trace)),
           );
           grows = record { tree = (step.does f).tree; log = (step.does f).log; faults = rises };
@@ -101,19 +101,19 @@ grows_none seen = record { tree = refl; log = ([], refl); faults = omega arith }
 
 -- nothing is due for a link that isn't kept
 abbrev pub IsQuiet : Act → Type 0
-IsQuiet event = (client : ℕ) (seen : Seen) (world : World) (deeds : List Deed) → is_open (ours deeds) ≡ false → (open_now : ℕ) → Due open_now event (ReadsNone seen seen) (ReadsOne seen seen) (λ k. ReadFailed client k seen seen) world world deeds deeds
+IsQuiet event = (spare client : ℕ) (seen : Seen) (world : World) (deeds : List Deed) → is_open (ours deeds) ≡ false → (open_now : ℕ) → Due open_now event spare (ReadsNone seen seen) (ReadsOne seen seen) (λ k. ReadFailed client k seen seen) world world deeds deeds
 
 pub readable_quiet : IsQuiet Readable
-readable_quiet client seen world deeds shut open_now = (refl, DueRead.idle (unwanted world (ours deeds) shut))
+readable_quiet spare client seen world deeds shut open_now = (refl, DueRead.idle (unwanted world (ours deeds) shut))
 
 pub writable_quiet : IsQuiet Writable
-writable_quiet client seen world deeds shut open_now = DueWrite.idle (unowing world (ours deeds) shut) (record { failed = refl; once = omega arith })
+writable_quiet spare client seen world deeds shut open_now = DueWrite.idle (unowing world (ours deeds) shut) (record { failed = refl; once = omega arith })
 
 pub none_gone : (link : ℕ) (disk : Disk) (server : Serving) (trace : List Entry) → kept_at link server.table ≡ None → Serves disk server trace → IsGone (world_of server.site disk link (own link trace)) (own link trace)
 none_gone link disk server trace none serves = let P : Option Held → Type 0 = λ k. StandsFor disk.table (world_of server.site disk link (own link trace)) k (own link trace) in subst P none (serves.each link)
 
-pub turn_out : (event : Act) → IsReady event → IsQuiet event → (link : ℕ) (server : Serving) (net files : Type 0) (seen : Seen) (old : List Entry) → kept_at link server.table ≡ None → TurnsOn event link server server net files seen seen old old
-turn_out event ready quiet link server net files seen old none n f trace gained new serves =
+pub turn_out : (event : Act) → IsReady event → IsQuiet event → (link : ℕ) (server : Serving) (net files : Type 0) (spare : ℕ) (seen : Seen) (old : List Entry) → kept_at link server.table ≡ None → TurnsOn event link server server net files spare seen seen old old
+turn_out event ready quiet link server net files spare seen old none n f trace gained new serves =
     let P : List Entry → Type 0 = Serves seen.disk server in
     let same : own link old ≡ own link trace = ap (own link) gained ∙ (ready link link trace).0 in (
       subst P (sym gained) (serves_ready event link seen.disk server trace ready serves),
@@ -125,8 +125,8 @@ turn_out event ready quiet link server net files seen old none n f trace gained 
         due = (
           refl,
           tt,
-          subst (λ (d : List Deed). Due (open_clients trace) event (ReadsNone seen seen) (ReadsOne seen seen) (λ k. ReadFailed link k seen seen) (world_of server.site seen.disk link (own link trace)) (world_of server.site seen.disk link d) (own link trace) d) (sym same)
-              (quiet link seen (world_of server.site seen.disk link (own link trace)) (own link trace) (none_gone link seen.disk server trace none serves).shut (open_clients trace)),
+          subst (λ (d : List Deed). Due (open_clients trace) event spare (ReadsNone seen seen) (ReadsOne seen seen) (λ k. ReadFailed link k seen seen) (world_of server.site seen.disk link (own link trace)) (world_of server.site seen.disk link d) (own link trace) d) (sym same)
+              (quiet spare link seen (world_of server.site seen.disk link (own link trace)) (own link trace) (none_gone link seen.disk server trace none serves).shut (open_clients trace)),
         );
         grows = grows_none seen;
       },

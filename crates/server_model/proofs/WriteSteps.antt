@@ -14,7 +14,7 @@ use Rattle.server_model.specs.Client.{current, owed, owes}
 use Rattle.chunkqueue.specs.Items.{Item, Byte, FileByte, bytes_of, item_byte, Leads, Shows}
 use Rattle.lt_http_body.specs.Standings.{is_over}
 use Rattle.server_model.specs.Held.{Stage, Awaiting, Heading, Taking, Asking, Answering, Held}
-use Rattle.server_model.specs.Steps.{number_of, has_no_items, has_no_bytes, took, without_file, wrote, staged, looks_at, looks}
+use Rattle.server_model.specs.Steps.{number_of, has_no_items, has_no_bytes, took, without_file, wrote, staged, looks_at, wants_memory_at, wants_memory}
 use Rattle.server_model.specs.Files.{Fits, Drops}
 use Rattle.server_model.specs.Serves.{IsAt, IsWaitingAt, Stands}
 use Rattle.server_model.specs.Due.{DueSettles, DueWrite, Settles, IsWriteAct, offer_limit}
@@ -26,9 +26,10 @@ use Rattle.server_model.proofs.Clients.{given_back}
 use Rattle.server_model.proofs.Moves.{no_items, matches_shows, matches_took}
 use Rattle.server_model.proofs.Settled.{and_true, length-bytes_of, fails_right}
 use Rattle.server_model.proofs.Standing.{matches_right, stands_number, stands_owed, stands_owes, stands_not_yet, stands_staged, stands_rests}
+use Rattle.server_model.proofs.Wanting.{wants_looks}
 use Rattle.server_model.proofs.SettleSteps.{wrote_then}
 use Rattle.server_model.proofs.Stepping.{step_none, step_stops, then_step, on_goes}
-use Rattle.server_model.proofs.Going.{then_settles}
+use Rattle.server_model.proofs.Going.{then_settles, settles_more}
 
 take_take : (n k : ℕ) (xs : List ℕ) → n ≤ k → take n (take k xs) ≡ take n xs
 take_take zero k xs le = refl
@@ -61,18 +62,11 @@ module _ (table : Table) (items : List Item) (front : List ℕ) (shows : Shows t
 some_owed : (world : World) (acts : List Act) (due : List ℕ) → owes world acts ≡ nat_lt 0 (length due) → 0 < length due → owes world acts ≡ true
 some_owed world acts due is some = let yes : nat_lt 0 (length due) ≡ true = grind (arith, nat_tests, some) in is ∙ yes
 
--- memory may be wanted in more cases
-settles_more : (world : World) (a b : Bool) → (a ≡ true → b ≡ true) → (past now : List Deed) → Settles world a past now → Settles world b past now
-settles_more world a b weaker past now (Settles.rests r) = Settles.rests r
-settles_more world a b weaker past now (Settles.finishes f s) = Settles.finishes f s
-settles_more world a b weaker past now (Settles.fails f) = Settles.fails f
-settles_more world a b weaker past now (Settles.yields m) = Settles.yields (weaker m)
-
--- what came is looked at only once all of a reply was taken
-looks_wrote : (held : Held) (n : ℕ) → looks (wrote held n) ≡ looks_at held.stage held.input (drop n held.owed)
-looks_wrote held n = by (has_no_items (drop n held.owed))
+-- memory is wanted only once all of a reply was taken
+wants_wrote : (held : Held) (n : ℕ) → wants_memory (wrote held n) ≡ wants_memory_at held.stage held.input (drop n held.owed)
+wants_wrote held n = by (has_no_items (drop n held.owed))
   where
-    by : (t : Bool) → looks (if t then without_file (took held n) else took held n) ≡ looks_at held.stage held.input (drop n held.owed)
+    by : (t : Bool) → wants_memory (if t then without_file (took held n) else took held n) ≡ wants_memory_at held.stage held.input (drop n held.owed)
     by true = refl
     by false = refl
 
@@ -126,20 +120,20 @@ module _ (sound : Type 0) (failed : ℕ → Type 0) (site : Site) (held : Held) 
 
     -- it took some bytes, its file is given back once nothing is owed any more, and then what follows
     pub write_then : (between after : Disk) (new : Held) (result : Option Ending) (n : ℕ) → n ≤ length front → (net → now ≡ told held.link (Ours (Wrote (length front) (take n front)) ∷ []) old) → (files → Drops (given_back held n) before between)
-        → SettlesTo (looks (wrote held n)) site (wrote held n) new result files between after → GoesBy Stands (DueWrite sound failed) site held new result net files before after old now
-    write_then between after new result n le gains dropped settles = then_settles Stands (DueWrite sound failed) (looks (wrote held n)) site held (took held n) new net files before after old now
+        → SettlesTo (wants_memory (wrote held n)) site (wrote held n) new result files between after → GoesBy Stands (DueWrite sound failed) site held new result net files before after old now
+    write_then between after new result n le gains dropped settles = then_settles Stands (DueWrite sound failed) (wants_memory (wrote held n)) site held (took held n) new net files before after old now
         (Ours (Wrote (length front) (take n front)) ∷ []) (refl, tt) gains (λ trace. refl) refl refl
         (λ f past s. matches_took before.table (world_of site before held.link past) held (ours past) n (length front) (take n front) (front_taken before.table held.owed front (shown past s) n le) s.matches some_first)
         (λ f past all s settled.
         let due : owed (world_of site before held.link past) (ours past) ≡ bytes_of before.table held.owed = stands_owed before.table (world_of site before held.link past) held (ours past) s in
         let act : IsWriteAct (owed (world_of site before held.link past) (ours past)) (Wrote (length front) (take n front)) = subst (λ (d : List ℕ). IsWriteAct d (Wrote (length front) (take n front))) (sym due) (some, most, front_within before.table held.owed front (shown past s), front_prefix before.table held.owed front (shown past s) n le) in
         let count : length (owed (world_of site before held.link past) (ours past)) ≡ length held.owed = ap length due ∙ length-bytes_of before.table held.owed in
-        let may : looks (wrote held n) ≡ true → nat_le (length (owed (world_of site before held.link past) (ours past))) (length (take n front)) ≡ true = λ is.
-        let all_taken = looks_all before.table (world_of site before held.link past) held (ours past) n held.stage s.matches.at s.waiting some_first (sym (looks_wrote held n) ∙ is) in
+        let may : wants_memory (wrote held n) ≡ true → nat_le (length (owed (world_of site before held.link past) (ours past))) (length (take n front)) ≡ true = λ is.
+        let all_taken = looks_all before.table (world_of site before held.link past) held (ours past) n held.stage s.matches.at s.waiting some_first (wants_looks held.stage held.input held.owed s.waiting (drop n held.owed) (sym (wants_wrote held n) ∙ is)) in
         let taken : length (take n front) ≡ n = omega (arith, length-take n front, le) in
         grind (arith, nat_tests, all_taken, count, taken) in
-        DueWrite.writes (Wrote (length front) (take n front)) (owing past some_first s) act (unfailed f) (settles_more (world_of site after held.link past) (looks (wrote held n)) (nat_le (length (owed (world_of site before held.link past) (ours past))) (length (take n front))) may (Ours (Wrote (length front) (take n front)) ∷ past) all settled))
-        result (wrote_then (looks (wrote held n)) site held new files before between after n result dropped settles)
+        DueWrite.writes (Wrote (length front) (take n front)) (owing past some_first s) act (unfailed f) (settles_more (world_of site after held.link past) (wants_memory (wrote held n)) (nat_le (length (owed (world_of site before held.link past) (ours past))) (length (take n front))) may (Ours (Wrote (length front) (take n front)) ∷ past) all settled))
+        result (wrote_then (wants_memory (wrote held n)) site held new files before between after n result dropped settles)
 
   -- the front was read from its file, and then what follows
   pub staged_then : (bytes : List ℕ) (new : Held) (result : Option Ending) (after : Disk) (old now : List Entry) → 0 < length held.owed → (files → Shows before.table held.owed held.staged → Shows before.table held.owed bytes)

@@ -1,11 +1,10 @@
 -- One client, by the acts of its link, the newest first, and by its world.
-use Rattle.std.specs.Prelude.{◌≡◌, ℕ, ◌<◌, ◌≤◌, List, [], ◌∷◌, ◌++◌, length, nat_lt, nat_le, Bool, true, false, not, ◌&&◌, Option, Some, None}
+use Rattle.std.specs.Prelude.{◌≡◌, ℕ, ◌<◌, ◌≤◌, List, [], ◌∷◌, length, nat_lt, nat_le, Bool, true, false, not, ◌&&◌, Some}
 use Rattle.lt_world.specs.declared.net.Address.{Address}
-use Rattle.lt_world.specs.declared.net.Ending.{Ending}
 use Rattle.lt_world.specs.declared.net.Ending.TheVariants as ending
 use Rattle.lt_world.specs.declared.files.FileCall.{FileCall}
 use Rattle.lt_world.specs.Acts.{input_of, output_of, ending_of}
-use Rattle.lt_world.specs.Trace.{Act, Accepted, Read, ReadEnd, Failed, Wrote, Close}
+use Rattle.lt_world.specs.Trace.{Act, Accepted, ReadEnd, Failed, Close}
 use Rattle.server_model.specs.Settings.{limit_for}
 use Rattle.server_model.specs.Request.{Head, Request, Complete, Limits, request_of, rest_of, is_complete}
 use Rattle.server_model.specs.World.{World, call_count}
@@ -86,6 +85,10 @@ pub record IsFinished (world : World) (acts : List Act) : Type 0 where
 -- the request that is whole after k others
 abbrev pub request_at : World → List Act → ℕ → Request
 request_at world acts k = request_of (limit_for world) (left_after (limit_for world) k (input_of acts))
+
+-- its current request, as far as it came
+abbrev pub current_request : World → List Act → Request
+current_request world acts = request_at world acts (current world acts).number
 
 -- no calls on files were made for request k but those of its plan
 abbrev pub AskedWithin : World → List Act → ℕ → Type 0

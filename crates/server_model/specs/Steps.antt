@@ -8,7 +8,7 @@ use Rattle.lt_http_body.specs.declared.body.BodyState.TheVariants as body
 use Rattle.lt_http_body.specs.declared.body.BodyRefusal.{BodyRefusal}
 use Rattle.lt_http_body.specs.Standings.{begin, answer_from, is_over}
 use Rattle.lt_http_body.specs.Reading.{standing_after, data_in, taken_in}
-use Rattle.server_model.specs.Request.{Head, Request, Unfinished, Refused, Open, Declined, Complete, Front, NoHead, BadHead, HasHead, front_of, body_status}
+use Rattle.server_model.specs.Request.{Head, Request, Unfinished, Refused, Open, Declined, Complete, Front, NoHead, BadHead, HasHead, is_headed, has_head, front_of, body_status}
 use Rattle.server_model.specs.Reply.{continue_bytes}
 use Rattle.server_model.specs.Client.{input_limit}
 use Rattle.server_model.specs.Held.{Stage, Awaiting, Heading, Taking, Asking, Answering, Held}
@@ -81,6 +81,17 @@ looks_at (Answering k last) input owed = not last && has_no_items owed
 
 abbrev pub looks : Held → Bool
 looks held = looks_at held.stage held.input held.owed
+
+-- what is to be done for it next may want memory: a whole head or a body is taken up, or a request is answered
+abbrev pub wants_memory_at : Stage → List ℕ → List Item → Bool
+wants_memory_at (Awaiting k) input owed = is_headed (front_of input)
+wants_memory_at (Heading k head) input owed = true
+wants_memory_at (Taking k head s content) input owed = not (has_no_bytes input) || is_over s.state
+wants_memory_at (Asking k r) input owed = has_head r
+wants_memory_at (Answering k last) input owed = not last && has_no_items owed && is_headed (front_of input)
+
+abbrev pub wants_memory : Held → Bool
+wants_memory held = wants_memory_at held.stage held.input held.owed
 
 -- the body of a request whose head was read is accepted up to a limit, and the client is told so where it waits for that
 abbrev pub accepted_at : Stage → ℕ → Held → Held

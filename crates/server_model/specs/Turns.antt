@@ -51,19 +51,19 @@ abbrev pub all_told : List Part → List Entry → List Entry
 all_told [] trace = trace
 all_told (p ∷ parts) trace = told p.client p.deeds (all_told parts trace)
 
--- what is due for the client of a link
-abbrev pub DueFor : Site → Act → ℕ → Seen → Seen → List Entry → List Entry → Type 0
-DueFor site event client before after old now = Due (open_clients old) event (ReadsNone before after) (ReadsOne before after) (λ k. ReadFailed client k before after) (world_of site before.disk client (own client old)) (world_of site after.disk client (own client now)) (own client old) (own client now)
+-- what is due for the client of a link, while so many buffers are spare
+abbrev pub DueFor : Site → Act → ℕ → ℕ → Seen → Seen → List Entry → List Entry → Type 0
+DueFor site event client spare before after old now = Due (open_clients old) event spare (ReadsNone before after) (ReadsOne before after) (λ k. ReadFailed client k before after) (world_of site before.disk client (own client old)) (world_of site after.disk client (own client now)) (own client old) (own client now)
 
 -- what is due for a client by its deeds, however many clients are open
-abbrev pub DueOn : Act → Seen → Seen → ℕ → World → World → List Deed → List Deed → Type 0
-DueOn event before after client was is past now = (open_now : ℕ) → Due open_now event (ReadsNone before after) (ReadsOne before after) (λ k. ReadFailed client k before after) was is past now
+abbrev pub DueOn : Act → ℕ → Seen → Seen → ℕ → World → World → List Deed → List Deed → Type 0
+DueOn event spare before after client was is past now = (open_now : ℕ) → Due open_now event spare (ReadsNone before after) (ReadsOne before after) (λ k. ReadFailed client k before after) was is past now
 
 -- an event of a link concerns its client alone
-abbrev pub DueParts : Site → Act → ℕ → List Part → Seen → Seen → List Entry → List Entry → Type 0
-DueParts site event link [] before after old now = ⊥
-DueParts site event link (p ∷ []) before after old now = (p.client ≡ link) × AreDeeds p.deeds × DueFor site event p.client before after old now
-DueParts site event link (p ∷ q ∷ parts) before after old now = ⊥
+abbrev pub DueParts : Site → Act → ℕ → List Part → ℕ → Seen → Seen → List Entry → List Entry → Type 0
+DueParts site event link [] spare before after old now = ⊥
+DueParts site event link (p ∷ []) spare before after old now = (p.client ≡ link) × AreDeeds p.deeds × DueFor site event p.client spare before after old now
+DueParts site event link (p ∷ q ∷ parts) spare before after old now = ⊥
 
 -- no call on the files is forgotten, and the tree stays
 pub record Grows (before after : Seen) : Type 0 where
@@ -71,13 +71,13 @@ pub record Grows (before after : Seen) : Type 0 where
   pub log : (more : List Call) × (more ++ before.disk.calls ≡ after.disk.calls)
   pub faults : before.faults ≤ after.faults
 
--- a trace gains an event of a link, and what is due for it
-pub record IsTurn (site : Site) (before after : Seen) (old now : List Entry) : Type 0 where
+-- a trace gains an event of a link, and what is due for it, while so many buffers are spare
+pub record IsTurn (site : Site) (spare : ℕ) (before after : Seen) (old now : List Entry) : Type 0 where
   pub link : ℕ
   pub event : Act
   pub parts : List Part
   pub gains : now ≡ all_told parts (record { link = link; act = event } ∷ old)
-  pub due : DueParts site event link parts before after old now
+  pub due : DueParts site event link parts spare before after old now
   pub grows : Grows before after
 
 -- how many clients are open, where so many were with this one, and this is kept of it now
@@ -118,7 +118,7 @@ abbrev pub IsNew : Act → ℕ → List Entry → Type 0
 IsNew (Accepted peer local) link trace = names link trace ≡ false
 IsNew event link trace = Unit {0}
 
--- the server goes on after an event of a link
-abbrev pub TurnsOn : Act → ℕ → Serving → Serving → Type 0 → Type 0 → Seen → Seen → List Entry → List Entry → Type 0
-TurnsOn event link server next net files before after old now = net → files → (trace : List Entry) → old ≡ record { link = link; act = event } ∷ trace → IsNew event link trace
-    → Serves before.disk server trace → Serves after.disk next now × IsTurn server.site before after trace now
+-- the server goes on after an event of a link, as which so many buffers were spare
+abbrev pub TurnsOn : Act → ℕ → Serving → Serving → Type 0 → Type 0 → ℕ → Seen → Seen → List Entry → List Entry → Type 0
+TurnsOn event link server next net files spare before after old now = net → files → (trace : List Entry) → old ≡ record { link = link; act = event } ∷ trace → IsNew event link trace
+    → Serves before.disk server trace → Serves after.disk next now × IsTurn server.site spare before after trace now
