@@ -7,3 +7,4 @@ pub mod Offering
 pub mod Feeding
 pub mod Replying
 pub mod Fronts
+pub mod Wanting

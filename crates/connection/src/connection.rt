@@ -3,7 +3,7 @@ ghost use Rattle.std.specs.Prelude.{◌≡◌, ℕ, ◌+◌, ◌-◌, ◌*◌, �
 ghost use Rattle.buffer_pool.specs.Kept.{Kept, HeldWithin};
 ghost use Rattle.lt_world.specs.Causes.{Rose};
 ghost use Rattle.chunkqueue.specs.Items.{Byte, Leads, Shows, AllLie, empty, items_of, count_of, staged_of};
-ghost use Rattle.server_model.specs.Steps.{arrived, received, received_end, advanced, looked, looks, accepted, answered, holding, wrote, staged, has_no_items, number_of, is_read_at, room_of};
+ghost use Rattle.server_model.specs.Steps.{arrived, received, received_end, advanced, looked, wants_memory, accepted, answered, holding, wrote, staged, has_no_items, number_of, is_read_at, room_of};
 ghost use Rattle.http_head.specs.Scan.{IsScan};
 ghost use Rattle.http_head.specs.Ends.{head_end};
 ghost use Rattle.http_head.specs.declared.ends.HeadEnd.TheVariants.{At};
@@ -178,9 +178,11 @@ impl Conn {
         requires counted { HeldWithin store.old (length self.old.numbers) }
         ensures ok { OnOk result (self.new.held ≡ advanced self.old.held) }
         ensures stage { IfOk result (λ stage. stage ≡ stage_of self.new.held) }
-        ensures err { OnErr result (IsHeldUp self.old.held self.new.held × (looks self.old.held ≡ true)) }
+        ensures err { OnErr result (IsHeldUp self.old.held self.new.held) }
         ensures exact { OnErr result (is_taking self.old.held.stage ≡ false → self.new ≡ self.old) }
-        ensures wants { OnErr result (is_taking self.old.held.stage ≡ false → (n : ℕ) × (head_end self.old.held.input ≡ At n)) }
+        // It is wanted only where a head is whole, or bytes of a body came.
+        ensures wants { OnErr result (wants_memory self.old.held ≡ true) }
+        ensures ends { OnErr result (is_taking self.old.held.stage ≡ false → (n : ℕ) × (head_end self.old.held.input ≡ At n)) }
         // A byte is put into a buffer once at most as it leaves the input.
         ensures filled { store.new.filled + length self.new.held.input ≤ store.old.filled + length self.old.held.input }
         ensures within { length self.old.held.input ≤ INPUT_LIMIT }
