@@ -28,6 +28,7 @@ pub mod Turning
 pub mod Arrivals
 pub mod Running
 pub mod Endings
+pub mod Rarely
 pub mod Rows
 pub mod Limited
 pub mod Refusals

@@ -1,5 +1,5 @@
 -- What must follow an event, by the deeds of its client up to it.
-use Rattle.std.specs.Prelude.{◌≡◌, ℕ, ◌<◌, ◌≤◌, List, ◌∷◌, Bool, true, false, not, ◌&&◌, ◌||◌, length, nat_le}
+use Rattle.std.specs.Prelude.{◌≡◌, ◌⊎◌, ℕ, ◌<◌, ◌≤◌, List, ◌∷◌, Bool, true, false, not, ◌&&◌, ◌||◌, length, nat_le}
 use Rattle.lt_world.specs.declared.net.Address.{Address}
 use Rattle.lt_world.specs.declared.net.Ending.TheVariants as ending
 use Rattle.lt_world.specs.Trace.{Act, Reading, Writing, Accepted, Readable, Writable, Read, ReadEnd, NotYet, Failed, Wrote, Close}
@@ -47,6 +47,10 @@ IsWriteAct due (Wrote offered bytes) = (1 ≤ offered) × (offered ≤ offer_lim
 IsWriteAct due (NotYet Writing) = Unit {0}
 IsWriteAct due (Failed Writing) = Unit {0}
 IsWriteAct due act = ⊥
+
+-- what came with a read is kept alone: no whole head of the current request is there by then, or the request was whole before
+abbrev pub IsKeptAlone : World → List Act → ℕ → List ℕ → Type 0
+IsKeptAlone world acts asked bytes = (has_head (request_at world (Read asked bytes ∷ acts) (current world acts).number) ≡ false) ⊎ (is_complete (current_request world acts) ≡ true)
 
 -- memory may be wanted after bytes came, while so many buffers were spare: where there was none for them, or where the head of the current request is whole by then and the request wasn't whole before; and never after their end
 abbrev pub may_want_after_read : ℕ → World → List Act → Act → Bool

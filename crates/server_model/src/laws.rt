@@ -7,7 +7,7 @@ ghost use Rattle.lt_world.specs.declared.net.Ending.{Ending};
 ghost use Rattle.lt_world.specs.declared.net.Ending.TheVariants as ending;
 ghost use Rattle.lt_world.specs.Causes.{Rose};
 ghost use Rattle.lt_world.specs.Disk.{Disk};
-ghost use Rattle.lt_world.specs.Trace.{Act, Entry, own as link_acts};
+ghost use Rattle.lt_world.specs.Trace.{Act, Entry, Read, ReadEnd, Close, own as link_acts};
 ghost use Rattle.http_head.specs.declared.framing.Framing.TheVariants as framed;
 ghost use Rattle.http_head.specs.Options.{closes};
 ghost use Rattle.http_head.specs.Head.{head_of};
@@ -25,10 +25,10 @@ ghost use Rattle.server_model.specs.Stream.{IsPrefix, is_followed, joined, Passe
 ghost use Rattle.server_model.specs.Deeds.{Deed, Ours, own, ours, told, deeds_in, AreDeeds};
 ghost use Rattle.server_model.specs.Client.{CameFrom, input_limit, stream, IsServedRight};
 ghost use Rattle.server_model.specs.Open.{open_clients};
-ghost use Rattle.server_model.specs.Due.{connection_limit, offer_limit};
+ghost use Rattle.server_model.specs.Due.{connection_limit, offer_limit, IsKeptAlone, MayYield};
 ghost use Rattle.server_model.specs.Held.{Serving};
 ghost use Rattle.server_model.specs.Serves.{Serves};
-ghost use Rattle.server_model.specs.Turns.{Grows};
+ghost use Rattle.server_model.specs.Turns.{Seen, Grows, IsTurn};
 ghost use Rattle.server_model.specs.Runs.{Told, IsRun};
 ghost use Rattle.server_model.specs.Causes.{IsCause};
 
@@ -186,6 +186,21 @@ pub fn the_limits_are_numbers()
     ensures clients { connection_limit ≡ 256 }
     ensures input { input_limit ≡ 65536 }
     ensures offer { offer_limit ≡ 4096 }
+{}
+
+/// Where memory may run out for a client.
+pub fn memory_is_wanted_rarely()
+    // Not with a read that is kept in a spare buffer: the head of the current request isn't whole after it, or the request was whole before it.
+    ensures reads { (site : Site) (spare : ℕ) (before after : Seen) (old now : List Entry) → IsTurn site spare before after old now → 0 < spare → (client asked : ℕ) (bytes : List ℕ)
+        → own client now ≡ Ours (Close ending.NoMemory) ∷ Ours (Read asked bytes) ∷ own client old → IsKeptAlone (world_of site before.disk client (own client old)) (ours (own client old)) asked bytes → ⊥ }
+
+    // Nor with the end of what a client sends.
+    ensures ends { (site : Site) (spare : ℕ) (before after : Seen) (old now : List Entry) → IsTurn site spare before after old now → (client : ℕ)
+        → own client now ≡ Ours (Close ending.NoMemory) ∷ Ours ReadEnd ∷ own client old → ⊥ }
+
+    // And in the place of a clean end only where the client ended within a body.
+    ensures clean { (site : Site) (spare : ℕ) (before after : Seen) (old now : List Entry) → IsTurn site spare before after old now → (client : ℕ) (deeds : List Deed)
+        → own client now ≡ Ours (Close ending.NoMemory) ∷ deeds → (own client now ≡ own client old) ⊎ MayYield (world_of site after.disk client (own client now)) (ours deeds) }
 {}
 
 /// The statuses that stand for want of memory never come: by their bytes neither a head nor a body is refused for it.
