@@ -24,8 +24,8 @@ abbrev told : Seen → List Entry → Told
 told seen trace = record { seen = seen; trace = trace }
 
 -- a turn more, by a server of the same root
-pub did : (site same : Site) (start : Told) (before after : Seen) (old now : List Entry) → same ≡ site → IsRun site start (told before old) → IsTurn same before after old now → IsRun site start (told after now)
-did site same start before after old now is run one = more run (subst (λ (s : Site). IsTurn s before after old now) is one)
+pub did : (site same : Site) (spare : ℕ) (start : Told) (before after : Seen) (old now : List Entry) → same ≡ site → IsRun site start (told before old) → IsTurn same spare before after old now → IsRun site start (told after now)
+did site same spare start before after old now is run one = more run (subst (λ (s : Site). IsTurn s spare before after old now) is one)
 
 -- nothing was told, and nothing is seen otherwise
 pub rested : (site : Site) (start : Told) (before after : Seen) (old now : List Entry) → IsRun site start (told before old) → after ≡ before → now ≡ old → IsRun site start (told after now)

@@ -9,9 +9,9 @@ use Rattle.lt_http_body.specs.declared.body.BodyState.TheVariants as body
 use Rattle.lt_http_body.specs.declared.body.BodyRefusal.{BodyRefusal}
 use Rattle.lt_http_body.specs.Standings.{begin, answer_from}
 use Rattle.lt_http_body.specs.Reading.{standing_after, data_in}
-use Rattle.server_model.specs.Request.{Head, Request, Unfinished, Refused, Open, Declined, Complete, Front, NoHead, BadHead, HasHead, front_of}
+use Rattle.server_model.specs.Request.{Head, Request, Unfinished, Refused, Open, Declined, Complete, Front, NoHead, BadHead, HasHead, is_headed, front_of}
 use Rattle.server_model.specs.Held.{Stage, Awaiting, Heading, Taking, Asking, Answering, Held}
-use Rattle.server_model.specs.Steps.{number_of, has_no_items, looked_at, looked, fed_at, advanced_at, advanced, looks, accepted_at, accepted, is_done_at, is_done}
+use Rattle.server_model.specs.Steps.{number_of, has_no_items, looked_at, looked, fed_at, advanced_at, advanced, looks_at, looks, wants_memory_at, wants_memory, accepted_at, accepted, is_done_at, is_done}
 use Rattle.server_model.specs.Files.{Fits}
 use Rattle.server_model.specs.Serves.{IsWaitingAt, IsWaiting}
 use Rattle.server_model.proofs.Clients.{IsSettledAt, IsFreedAt, IsFreed, by_front, advanced_settled, looks_advanced}
@@ -264,6 +264,11 @@ module _ (held : Held) where
       by (IsRefused.Unread is) = ap is_asking is
       by (IsRefused.Read head is) = ap is_asking is
 
+-- its answer may want memory
+pub refused_wants : (held : Held) (status : ℕ) → IsRefused held.stage status → wants_memory held ≡ true
+refused_wants held status (IsRefused.Unread at) = ap (λ (s : Stage). wants_memory_at s held.input held.owed) at
+refused_wants held status (IsRefused.Read head at) = ap (λ (s : Stage). wants_memory_at s held.input held.owed) at
+
 -- a head was read
 pub data IsHeaded (s : Stage) : Type 0 where
   Headed : (k : ℕ) (head : Head) → s ≡ Heading k head → IsHeaded s
@@ -282,19 +287,45 @@ headed_at (Answering k last) owed ended is = absurd (no_head last (has_no_items 
 pub headed : (held : Held) → stage_of held ≡ next.Head → IsHeaded held.stage
 headed held is = headed_at held.stage held.owed held.ended is
 
+pub headed_wants : (held : Held) → stage_of held ≡ next.Head → wants_memory held ≡ true
+headed_wants held is = by (headed held is)
+  where
+    by : IsHeaded held.stage → wants_memory held ≡ true
+    by (IsHeaded.Headed k head at) = ap (λ (s : Stage). wants_memory_at s held.input held.owed) at
+
 pub headed_heading : (held : Held) → stage_of held ≡ next.Head → is_heading held.stage ≡ true
 headed_heading held is = by (headed held is)
   where
     by : IsHeaded held.stage → is_heading held.stage ≡ true
     by (IsHeaded.Headed k head at) = ap is_heading at
 
--- a head or a request is taken up only where what came was looked at
-busy_looks : (held : Held) → is_idle held.stage ≡ true → is_idle (advanced held).stage ≡ false → looks held ≡ true
-busy_looks held idle busy = by (looks held) refl
+-- a head or a request is taken up only where that may want memory
+busy_front : (k : ℕ) (f : Front) (held : Held) → is_idle (looked_at k f held).stage ≡ false → is_headed f ≡ true
+busy_front k NoHead held busy = absurd (cc (busy))
+busy_front k (BadHead status) held busy = refl
+busy_front k (HasHead head rest) held busy = refl
+
+busy_at : (s : Stage) (held : Held) → held.stage ≡ s → is_idle s ≡ true → is_idle (advanced_at s held).stage ≡ false → wants_memory_at s held.input held.owed ≡ true
+busy_at (Awaiting k) held at idle busy = busy_front k (front_of held.input) held busy
+busy_at (Heading k head) held at idle busy = refl
+busy_at (Taking k head s content) held at idle busy = by (looks held) refl
   where
-    by : (t : Bool) → looks held ≡ t → t ≡ true
-    by true is = refl
-    by false is = let same : (advanced held).stage ≡ held.stage = ap (λ (h : Held). h.stage) (looks_advanced held is) in absurd (cc (same, idle, busy))
+    by : (t : Bool) → looks held ≡ t → looks_at (Taking k head s content) held.input held.owed ≡ true
+    by true is = ap (λ (x : Stage). looks_at x held.input held.owed) (sym at) ∙ is
+    by false is =
+        let same : advanced_at (Taking k head s content) held ≡ held = ap (λ (x : Stage). advanced_at x held) (sym at) ∙ looks_advanced held is in
+        let idles : is_idle (advanced_at (Taking k head s content) held).stage ≡ true = ap (λ (h : Held). is_idle h.stage) same ∙ ap is_idle at in
+        absurd (cc (idles, busy))
+busy_at (Asking k r) held at idle busy = absurd (cc (idle))
+busy_at (Answering k true) held at idle busy = let idles : is_idle held.stage ≡ true = ap is_idle at in absurd (cc (idles, busy))
+busy_at (Answering k false) held at idle busy = by (has_no_items held.owed) refl busy
+  where
+    by : (t : Bool) → has_no_items held.owed ≡ t → is_idle (if t then looked (k + 1) held else held).stage ≡ false → (t && is_headed (front_of held.input)) ≡ true
+    by true none b = busy_front (k + 1) (front_of held.input) held b
+    by false some b = let idles : is_idle held.stage ≡ true = ap is_idle at in absurd (cc (idles, b))
+
+busy_wants : (held : Held) → is_idle held.stage ≡ true → is_idle (advanced held).stage ≡ false → wants_memory held ≡ true
+busy_wants held idle busy = busy_at held.stage held refl idle busy
 
 asking_busy : (s : Stage) → is_asking s ≡ true → is_idle s ≡ false
 asking_busy (Awaiting k) asks = absurd (cc (asks))
@@ -307,11 +338,11 @@ headed_busy : (s : Stage) → IsHeaded s → is_idle s ≡ false
 headed_busy s (IsHeaded.Headed k head is) = ap is_idle is
 
 module _ (held mid : Held) (is : mid ≡ advanced held) (idle : is_idle held.stage ≡ true) where
-  pub asks_looks : is_asking mid.stage ≡ true → looks held ≡ true
-  asks_looks asks = busy_looks held idle (ap (λ (h : Held). is_idle h.stage) (sym is) ∙ asking_busy mid.stage asks)
+  pub asks_wants : is_asking mid.stage ≡ true → wants_memory held ≡ true
+  asks_wants asks = busy_wants held idle (ap (λ (h : Held). is_idle h.stage) (sym is) ∙ asking_busy mid.stage asks)
 
-  pub heads_looks : stage_of mid ≡ next.Head → looks held ≡ true
-  heads_looks at = busy_looks held idle (ap (λ (h : Held). is_idle h.stage) (sym is) ∙ headed_busy mid.stage (headed mid at))
+  pub heads_wants : stage_of mid ≡ next.Head → wants_memory held ≡ true
+  heads_wants at = busy_wants held idle (ap (λ (h : Held). is_idle h.stage) (sym is) ∙ headed_busy mid.stage (headed mid at))
 
 -- the body of its request is accepted
 module _ (held : Held) (limit : ℕ) where

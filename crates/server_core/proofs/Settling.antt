@@ -16,7 +16,7 @@ use Rattle.server_model.specs.World.{Arrival, world_of}
 use Rattle.server_model.specs.Plan.{Outcome, error_outcome, file_outcome, error_fields, file_fields, is_head}
 use Rattle.server_model.specs.Reply.{error_bytes, content_head, body_for, final_bytes}
 use Rattle.server_model.specs.Held.{Stage, Asking, Held, Heading, arrival_of}
-use Rattle.server_model.specs.Steps.{number_of, advanced, looks, accepted, answered, holding, has_no_items, is_done}
+use Rattle.server_model.specs.Steps.{number_of, advanced, wants_memory, accepted, answered, holding, has_no_items, is_done}
 use Rattle.server_model.specs.Files.{IsOpened, AllFit, Fits, FileStep}
 use Rattle.server_model.specs.Planning.{CallsFor, CallsWhole, PlansTo, PlansError, PlansFile}
 use Rattle.server_model.specs.Serves.{Matches}
@@ -34,7 +34,7 @@ use Rattle.request_plan.specs.Form.{form_of, refused_form}
 use Rattle.request_plan.specs.Planned.{PlansOutcome}
 use Rattle.server_core.specs.Steps.{is_idle, IsFree, IsAdvanced, IsResting, WaitsOn, GivenBy}
 use Rattle.request_plan.specs.declared.planned.Outcome as planned
-use Rattle.server_core.proofs.Advancing.{IsRefused, Rests, free_freed, advanced_fits, step_settled, headed, asks_looks, accepted_idle, accepted_free, accepted_reads}
+use Rattle.server_core.proofs.Advancing.{IsRefused, Rests, free_freed, advanced_fits, step_settled, headed, refused_wants, asks_wants, accepted_idle, accepted_free, accepted_reads}
 
 -- bytes in memory fit any files
 pub all_memory : (table : Table) (file : Option ℕ) (bytes : List ℕ) → AllFit table file (map Byte bytes)
@@ -179,11 +179,11 @@ bare_empty false = refl
 
 -- a request that is refused
 module _ (site : Site) (held : Held) (tells : Type 0) (disk : Disk) (none : held.file ≡ None) (here : tells → Fits disk.table held) (status : ℕ) where
-  no_memory : (form : Form) (new : Held) (e : Ending) → (e ≡ ending.NoMemory) × (new ≡ holding held None) → SettlesTo true site held new (Some e) tells disk disk
-  no_memory form new e is = subst (λ (x : Ending). SettlesTo true site held new (Some x) tells disk disk) (sym is.0) (settle_yields site held tells disk new (ap (λ (h : Held). h.link) is.1) (ap (λ (h : Held). h.file) is.1 ∙ sym none))
+  no_memory : IsRefused held.stage status → (form : Form) (new : Held) (e : Ending) → (e ≡ ending.NoMemory) × (new ≡ holding held None) → SettlesTo true site held new (Some e) tells disk disk
+  no_memory refused form new e is = subst (λ (x : Ending). SettlesTo true site held new (Some x) tells disk disk) (sym is.0) (settle_yields site held tells disk new (refused_wants held status refused) (ap (λ (h : Held). h.link) is.1) (ap (λ (h : Held). h.file) is.1 ∙ sym none))
 
   refused_by : (tag : List ℕ) (form : Form) (new : Held) (result : Option Ending) → IsRefused held.stage status → tag ≡ (settings_at site (Some (arrival_of held)) (head_at held.stage)).tag → form ≡ refused_form (head_at held.stage) → GivenBy result held new (map Byte (error_at tag form.minor status form.last form.head_only)) None form.last → SettlesTo true site held new result tells disk disk
-  refused_by tag form new (Some e) refused called is given = no_memory form new e given
+  refused_by tag form new (Some e) refused called is given = no_memory refused form new e given
   refused_by tag form new None (IsRefused.Unread at) called is given =
       let tag_is : tag ≡ (settings_at site (Some (arrival_of held)) None).tag = called ∙ ap (λ (s : Stage). (settings_at site (Some (arrival_of held)) (head_at s)).tag) at in
       let form_is : form ≡ refused_form None = is ∙ ap (λ (s : Stage). refused_form (head_at s)) at in
@@ -219,11 +219,11 @@ module _ (site : Site) (held mid : Held) (tells : Type 0) (disk : Disk) (free : 
   step_then may new after result settles = advance_then may site held new tells disk after result (free_freed held free)
       (subst (λ (h : Held). SettlesTo may site h new result tells disk after) is settles)
 
-  pub step_goes : is_idle held.stage ≡ true → (new : Held) (after : Disk) (result : Option Ending) → SettlesTo (is_asking mid.stage) site mid new result tells disk after → SettlesTo (looks held) site held new result tells disk after
-  step_goes idle new after result settles = step_then (looks held) new after result (settle_more (is_asking mid.stage) (looks held) site mid new tells disk after result (asks_looks held mid is idle) settles)
+  pub step_goes : is_idle held.stage ≡ true → (new : Held) (after : Disk) (result : Option Ending) → SettlesTo (is_asking mid.stage) site mid new result tells disk after → SettlesTo (wants_memory held) site held new result tells disk after
+  step_goes idle new after result settles = step_then (wants_memory held) new after result (settle_more (is_asking mid.stage) (wants_memory held) site mid new tells disk after result (asks_wants held mid is idle) settles)
 
-  pub step_reads : looks held ≡ true → (new : Held) (after : Disk) (result : Option Ending) → SettlesTo true site mid new result tells disk after → SettlesTo (looks held) site held new result tells disk after
-  step_reads looked new after result settles = step_then (looks held) new after result (goes_answers (looks held) site mid tells disk new after result looked settles)
+  pub step_reads : wants_memory held ≡ true → (new : Held) (after : Disk) (result : Option Ending) → SettlesTo true site mid new result tells disk after → SettlesTo (wants_memory held) site held new result tells disk after
+  step_reads wants new after result settles = step_then (wants_memory held) new after result (goes_answers (wants_memory held) site mid tells disk new after result wants settles)
 
   pub step_link : mid.link ≡ held.link
   step_link = ap (λ (h : Held). h.link) is ∙ advanced_link held
@@ -231,12 +231,12 @@ module _ (site : Site) (held mid : Held) (tells : Type 0) (disk : Disk) (free : 
   pub step_fits : (tells → Fits disk.table held) → tells → Fits disk.table mid
   step_fits fits f = subst (Fits disk.table) (sym is) (advanced_fits disk.table held (fits f))
 
--- without memory nothing is looked at
-pub settles_unlooked : (site : Site) (held new : Held) (tells : Type 0) (disk : Disk) → new.link ≡ held.link → new.file ≡ held.file → looks held ≡ true → SettlesTo (looks held) site held new (Some ending.NoMemory) tells disk disk
-settles_unlooked site held new tells disk link file looked = goes_answers (looks held) site held tells disk new disk (Some ending.NoMemory) looked (settle_yields site held tells disk new link file)
+-- without memory nothing is taken up
+pub settles_unlooked : (site : Site) (held new : Held) (tells : Type 0) (disk : Disk) → new.link ≡ held.link → new.file ≡ held.file → wants_memory held ≡ true → SettlesTo (wants_memory held) site held new (Some ending.NoMemory) tells disk disk
+settles_unlooked site held new tells disk link file wants = goes_answers (wants_memory held) site held tells disk new disk (Some ending.NoMemory) wants (settle_yields site held tells disk new wants link file)
 
-pub settles_unread : (site : Site) (held new : Held) (tells : Type 0) (disk : Disk) → new.link ≡ held.link → new.file ≡ held.file → SettlesTo true site held new (Some ending.NoMemory) tells disk disk
-settles_unread site held new tells disk link file = settle_yields site held tells disk new link file
+pub settles_unread : (site : Site) (held new : Held) (tells : Type 0) (disk : Disk) → wants_memory held ≡ true → new.link ≡ held.link → new.file ≡ held.file → SettlesTo true site held new (Some ending.NoMemory) tells disk disk
+settles_unread site held new tells disk wants link file = settle_yields site held tells disk new wants link file
 
 -- the limit is that of the head which was read
 pub body_limit : (site : Site) (held : Held) (s : Settings) → s ≡ settings_at site (Some (arrival_of held)) (head_at held.stage)

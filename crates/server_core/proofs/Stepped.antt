@@ -1,5 +1,5 @@
 -- The steps of the code, by those of the model.
-use Rattle.std.proofs.Common.{◌≡◌, ◌≢◌, ℕ, zero, suc, ◌+◌, ◌≤◌, ◌<◌, List, [], ◌∷◌, length, take, drop, Bool, true, false, nat_lt, Option, Some, None, if◌then◌else◌, refl, sym, ◌∙◌, ap, subst, arith}
+use Rattle.std.proofs.Common.{◌≡◌, ◌≢◌, ℕ, zero, suc, ◌+◌, ◌*◌, ◌≤◌, ◌<◌, List, [], ◌∷◌, length, take, drop, Bool, true, false, nat_lt, Option, Some, None, if◌then◌else◌, refl, sym, ◌∙◌, ap, subst, arith}
 use Rattle.std.proofs.lemmas.Bool.Decides.{nat_tests}
 use Rattle.lt_world.specs.declared.net.Ending.{Ending}
 use Rattle.lt_world.specs.declared.net.Ending.TheVariants as ending
@@ -10,19 +10,23 @@ use Rattle.chunkqueue.specs.Items.{Item, Byte, FileByte, AllLie, Leads, Shows}
 use Rattle.server_model.specs.Site.{Site}
 use Rattle.server_model.specs.Deeds.{Ours, told}
 use Rattle.server_model.specs.Held.{Stage, Awaiting, Heading, Taking, Asking, Answering, Held}
-use Rattle.server_model.specs.Steps.{number_of, took, wrote, staged, without_file, looks, has_no_items, room_of, wants_read}
+use Rattle.server_model.specs.Steps.{number_of, took, wrote, staged, without_file, wants_memory, has_no_items, room_of, wants_read}
 use Rattle.server_model.specs.Files.{IsOpened, AllFit, Fits, Drops}
 use Rattle.server_model.specs.Serves.{IsWaitingAt, Stands}
 use Rattle.server_model.specs.Due.{DueRead, DueWrite, offer_limit}
 use Rattle.server_model.specs.Turns.{Seen, ReadFailed, ReadsNone, ReadsOne, DueOn, GoesBy}
 use Rattle.server_model.specs.Settling.{SettlesTo}
 use Rattle.server_model.proofs.FileSteps.{drop_fits}
-use Rattle.server_model.proofs.SettleSteps.{settle_more}
 use Rattle.server_model.proofs.Stepping.{same_goes}
 use Rattle.server_model.proofs.WriteSteps.{write_not_yet, write_failed, write_faults, write_then, staged_then}
 use Rattle.server_core.specs.declared.step.Ready.{Ready}
 use Rattle.server_core.specs.declared.step.Ready.TheVariants as ready
 use Rattle.server_core.specs.Steps.{is_idle, IsFreeAt, IsFree, IsResting, FailsFor, done_file, event_of}
+
+-- a read for which memory was wanted found no spare buffer
+pub unspared : (bytes : List ℕ) (spare : ℕ) → length bytes ≤ 4096 → (length bytes ≤ 4096 * spare → false ≡ true) → spare ≡ 0
+unspared bytes zero few wanted = refl
+unspared bytes (suc spare) few wanted = absurd (cc (wanted (omega (arith, few))))
 
 -- what is told of a link
 pub tells_at : (l m : ℕ) (act : Act) (old now : List Entry) → l ≡ m → now ≡ said l (act ∷ []) old → now ≡ told m (Ours act ∷ []) old
@@ -47,9 +51,9 @@ room_wants held (suc room) is some = let more : 0 < room_of held = omega (arith,
 pub no_room : (held : Held) (room : ℕ) → room ≡ room_of held → room ≡ 0 → wants_read held ≡ false
 no_room held room is none = let zero_is : room_of held ≡ 0 = sym is ∙ none in ap (λ (n : ℕ). nat_lt 0 n) zero_is
 
--- what settles after a read, for which memory may always be wanted
-pub settles_read : (site : Site) (mid held new : Held) (files : Type 0) (before after : Disk) (result : Option Ending) → mid ≡ held → SettlesTo (looks mid) site mid new result files before after → SettlesTo true site held new result files before after
-settles_read site mid held new files before after result is settles = subst (λ (h : Held). SettlesTo true site h new result files before after) is (settle_more (looks mid) true site mid new files before after result (λ e. refl) settles)
+-- what settles after a read
+pub settles_read : (site : Site) (mid held new : Held) (files : Type 0) (before after : Disk) (result : Option Ending) → mid ≡ held → SettlesTo (wants_memory mid) site mid new result files before after → SettlesTo (wants_memory held) site held new result files before after
+settles_read site mid held new files before after result is settles = subst (λ (h : Held). SettlesTo (wants_memory h) site h new result files before after) is settles
 
 pub same_table : (a b c : Disk) → b ≡ a → c ≡ b → c.table ≡ a.table
 same_table a b c one two = ap (λ (d : Disk). d.table) (two ∙ one)
@@ -71,15 +75,15 @@ reads_one before later reads failed once same = record { failed = ap (λ (r : Re
 
 -- a read is what is due for a link that is ready so, since it touches no file, and so is a write
 module _ (r : Ready) where
-  pub read_due : r ≡ ready.Reading → (link : ℕ) (before later : Seen) (site : Site) (held new : Held) (net files : Type 0) (disk after : Disk) (old now : List Entry) (result : Option Ending) → ReadsNone before later
-      → GoesBy Stands DueRead site held new result net files disk after old now → GoesBy Stands (DueOn (event_of r) before later link) site held new result net files disk after old now
-  read_due reading link before later site held new net files disk after old now result sound goes = subst (λ (t : Ready). GoesBy Stands (DueOn (event_of t) before later link) site held new result net files disk after old now) (sym reading)
-      (same_goes Stands DueRead (DueOn Readable before later link) site held new net files disk disk after old now (λ f was world past all due open_now. (sound, due)) (λ f. refl) result goes)
+  pub read_due : r ≡ ready.Reading → (spare link : ℕ) (before later : Seen) (site : Site) (held new : Held) (net files : Type 0) (disk after : Disk) (old now : List Entry) (result : Option Ending) → ReadsNone before later
+      → GoesBy Stands (DueRead spare) site held new result net files disk after old now → GoesBy Stands (DueOn (event_of r) spare before later link) site held new result net files disk after old now
+  read_due reading spare link before later site held new net files disk after old now result sound goes = subst (λ (t : Ready). GoesBy Stands (DueOn (event_of t) spare before later link) site held new result net files disk after old now) (sym reading)
+      (same_goes Stands (DueRead spare) (DueOn Readable spare before later link) site held new net files disk disk after old now (λ f was world past all due open_now. (sound, due)) (λ f. refl) result goes)
 
-  pub write_due : r ≡ ready.Writing → (link : ℕ) (before later : Seen) (site : Site) (held new : Held) (net files : Type 0) (disk after : Disk) (old now : List Entry) (result : Option Ending)
-      → GoesBy Stands (DueWrite (ReadsOne before later) (FailsFor link before later)) site held new result net files disk after old now → GoesBy Stands (DueOn (event_of r) before later link) site held new result net files disk after old now
-  write_due writing link before later site held new net files disk after old now result goes = subst (λ (t : Ready). GoesBy Stands (DueOn (event_of t) before later link) site held new result net files disk after old now) (sym writing)
-      (same_goes Stands (DueWrite (ReadsOne before later) (FailsFor link before later)) (DueOn Writable before later link) site held new net files disk disk after old now (λ f was world past all due open_now. due) (λ f. refl) result goes)
+  pub write_due : r ≡ ready.Writing → (spare link : ℕ) (before later : Seen) (site : Site) (held new : Held) (net files : Type 0) (disk after : Disk) (old now : List Entry) (result : Option Ending)
+      → GoesBy Stands (DueWrite (ReadsOne before later) (FailsFor link before later)) site held new result net files disk after old now → GoesBy Stands (DueOn (event_of r) spare before later link) site held new result net files disk after old now
+  write_due writing spare link before later site held new net files disk after old now result goes = subst (λ (t : Ready). GoesBy Stands (DueOn (event_of t) spare before later link) site held new result net files disk after old now) (sym writing)
+      (same_goes Stands (DueWrite (ReadsOne before later) (FailsFor link before later)) (DueOn Writable spare before later link) site held new net files disk disk after old now (λ f was world past all due open_now. due) (λ f. refl) result goes)
 
 -- a fault of the file
 pub faults_goes : (sound : Type 0) (failed : ℕ → Type 0) (site : Site) (held new : Held) (net files : Type 0) (before after : Disk) (old : List Entry) → 0 < length held.owed → (files → failed (number_of held.stage)) → new ≡ held → (files → after ≡ before)
@@ -174,10 +178,10 @@ module _ (sound : Type 0) (failed : ℕ → Type 0) (site : Site) (held mid : He
   offered_failed gains = via mid disk (Some ending.ClientFault) (write_failed sound failed site mid net files disk old now front leads any most unfailed gains)
 
   pub offered_wrote : (between after : Disk) (mid_new new : Held) (result : Option Ending) (n : ℕ) → n ≤ length front → (net → now ≡ told mid.link (Ours (Wrote (length front) (take n front)) ∷ []) old) → mid_new ≡ wrote mid n
-      → (files → Drops (done_file mid n) disk between) → SettlesTo (looks mid_new) site mid_new new result files between after → GoesBy Stands (DueWrite sound failed) site held new result net files before after old now
+      → (files → Drops (done_file mid n) disk between) → SettlesTo (wants_memory mid_new) site mid_new new result files between after → GoesBy Stands (DueWrite sound failed) site held new result net files before after old now
   offered_wrote between after mid_new new result n le gains took_is dropped settles = via new after result (write_then sound failed site mid net files disk old now front leads any most unfailed between after new result n le gains
       dropped
-      (subst (λ (h : Held). SettlesTo (looks h) site h new result files between after) took_is settles))
+      (subst (λ (h : Held). SettlesTo (wants_memory h) site h new result files between after) took_is settles))
 
 pub none_owed : (items : List Item) → false ≡ nat_lt 0 (length items) → items ≡ []
 none_owed [] is = refl

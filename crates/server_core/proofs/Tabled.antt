@@ -45,13 +45,13 @@ is_quiet ready.Reading = readable_quiet
 is_quiet ready.Writing = writable_quiet
 
 module _ (event : Act) (ready : IsReady event)
-    (link : ℕ) (site : Site) (conns next : List Connected) (held : Held) (now : Option Held) (net files : Type 0) (before after : Seen) (old told_now : List Entry)
+    (link : ℕ) (site : Site) (conns next : List Connected) (held : Held) (now : Option Held) (net files : Type 0) (spare : ℕ) (before after : Seen) (old told_now : List Entry)
     (here : held.link ≡ link) (kept : kept_at link (helds conns) ≡ Some held) (change : Changes link (helds conns) (helds next) now) (backs : files → Backs before.disk.table (helds conns))
-    (step : StepsBy Stands (DueOn event before after held.link) site held now net files before.disk after.disk old told_now) where
-  pub conns_turn : before.faults ≤ after.faults → TurnsOn event link (serving site conns) (serving site next) net files before after old told_now
+    (step : StepsBy Stands (DueOn event spare before after held.link) site held now net files before.disk after.disk old told_now) where
+  pub conns_turn : before.faults ≤ after.faults → TurnsOn event link (serving site conns) (serving site next) net files spare before after old told_now
   conns_turn rises =
-      let P : ℕ → Type 0 = λ l. (kept_at l (helds conns) ≡ Some held) → Changes l (helds conns) (helds next) now → TurnsOn event l (serving site conns) (serving site next) net files before after old told_now in
-      subst P here (λ k ch. turn_step event ready site (helds conns) (helds next) held now net files before after old told_now k ch backs step rises) kept change
+      let P : ℕ → Type 0 = λ l. (kept_at l (helds conns) ≡ Some held) → Changes l (helds conns) (helds next) now → TurnsOn event l (serving site conns) (serving site next) net files spare before after old told_now in
+      subst P here (λ k ch. turn_step event ready site (helds conns) (helds next) held now net files spare before after old told_now k ch backs step rises) kept change
 
   pub conns_backs : files → Backs after.disk.table (helds next)
   conns_backs f =

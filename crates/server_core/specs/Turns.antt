@@ -8,10 +8,10 @@ use Rattle.server_model.specs.Turns.{Seen, IsTurn}
 use Rattle.server_core.specs.declared.turn.Turn.{Turn}
 use Rattle.server_core.specs.declared.turn.Turn.TheVariants as turn
 
--- what the trace gained, by the answer
-abbrev pub Turned : Turn → Site → Seen → Seen → List Entry → List Entry → Type 0
-Turned turn.Did site before after old now = IsTurn site before after old now
-Turned other site before after old now = now ≡ old
+-- what the trace gained, by the answer, and by how many buffers were spare before
+abbrev pub Turned : Turn → Site → ℕ → Seen → Seen → List Entry → List Entry → Type 0
+Turned turn.Did site spare before after old now = IsTurn site spare before after old now
+Turned other site spare before after old now = now ≡ old
 
 -- a fact where nothing was done
 abbrev pub OnRest : Turn → Type 0 → Type 0

@@ -108,7 +108,7 @@ impl<'c> Server<'c> {
         // The server stands for what the net and the files tell, and what was due for the event was done.
         ensures serves { N.tells → F.tells → Serves (F.disk files.old) (serving_at self.old) (N.trace net.old) →
             Serves (F.disk files.new) (serving_at self.new) (N.trace net.new) ×
-            Turned result self.old.site (seen_as (F.disk files.old) (F.faults files.old) (F.reads files.old))
+            Turned result self.old.site (length self.old.pool.free) (seen_as (F.disk files.old) (F.faults files.old) (F.reads files.old))
             (seen_as (F.disk files.new) (F.faults files.new) (F.reads files.new)) (N.trace net.old) (N.trace net.new) }
         ensures site { self.new.site ≡ self.old.site }
 

@@ -11,7 +11,7 @@ ghost use Rattle.server_model.specs.Settings.{settings_at};
 ghost use Rattle.server_model.specs.Reply.{error_bytes};
 ghost use Rattle.server_model.specs.Files.{Fits};
 ghost use Rattle.server_model.specs.Settling.{SettlesTo};
-ghost use Rattle.server_model.specs.Steps.{looks, number_of};
+ghost use Rattle.server_model.specs.Steps.{wants_memory, number_of};
 ghost use Rattle.connection.specs.Connection.{file_number, IsBodyOf};
 ghost use Rattle.connection.specs.Stages.{stage_of, is_asking};
 ghost use Rattle.connection.specs.declared.stage.Stage.TheVariants as next;
@@ -44,7 +44,7 @@ pub(crate) fn settle<F: Files>(
     requires idle { is_idle conn.old.held.stage ≡ true }
     requires free { IsFree conn.old.held }
     requires fits { F.tells → Fits (F.disk files.old).table conn.old.held }
-    ensures settles { SettlesTo (looks conn.old.held) site.now conn.old.held conn.new.held result F.tells (F.disk files.old) (F.disk files.new) }
+    ensures settles { SettlesTo (wants_memory conn.old.held) site.now conn.old.held conn.new.held result F.tells (F.disk files.old) (F.disk files.new) }
     ensures link { conn.new.held.link ≡ conn.old.held.link }
     ensures waits { WaitsOn result conn.new.held }
     ensures filled { store.new.filled ≤ store.old.filled + SETTLE_FILL }

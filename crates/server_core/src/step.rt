@@ -87,7 +87,7 @@ pub(crate) fn step_for<N: Net, F: Files>(
     requires fits { F.tells → Fits (F.disk files.old).table conn.old.held }
     // What is seen later tells of a failed read too.
     ensures goes { (later : Seen) → F.faults files.new ≤ later.faults → later.reads ≡ F.reads files.new →
-        GoesBy Stands (DueOn (event_of ready) (seen_as (F.disk files.old) (F.faults files.old) (F.reads files.old)) later conn.old.held.link)
+        GoesBy Stands (DueOn (event_of ready) (length store.old.free) (seen_as (F.disk files.old) (F.faults files.old) (F.reads files.old)) later conn.old.held.link)
         site.now conn.old.held conn.new.held result N.tells F.tells (F.disk files.old) (F.disk files.new) (N.trace net.old) (N.trace net.new) }
     ensures link { conn.new.held.link ≡ conn.old.held.link }
     ensures waits { WaitsOn result conn.new.held }
@@ -121,7 +121,7 @@ fn read_for<N: Net, F: Files>(
     requires counted { HeldWithin store.old (length conn.old.numbers) }
     requires resting { IsResting conn.old.held }
     requires fits { F.tells → Fits (F.disk files.old).table conn.old.held }
-    ensures goes { GoesBy Stands DueRead site.now conn.old.held conn.new.held result N.tells F.tells
+    ensures goes { GoesBy Stands (DueRead (length store.old.free)) site.now conn.old.held conn.new.held result N.tells F.tells
         (F.disk files.old) (F.disk files.new) (N.trace net.old) (N.trace net.new) }
     ensures link { conn.new.held.link ≡ conn.old.held.link }
     ensures waits { WaitsOn result conn.new.held }
@@ -168,7 +168,7 @@ fn receive<N: Net, F: Files>(
     requires some { 0 < length buf.old }
     requires within { length buf.old ≤ room_of conn.old.held }
     requires most { length buf.old ≤ BUFFER_SIZE }
-    ensures goes { GoesBy Stands DueRead site.now conn.old.held conn.new.held result N.tells F.tells
+    ensures goes { GoesBy Stands (DueRead (length store.old.free)) site.now conn.old.held conn.new.held result N.tells F.tells
         (F.disk files.old) (F.disk files.new) (N.trace net.old) (N.trace net.new) }
     ensures link { conn.new.held.link ≡ conn.old.held.link }
     ensures waits { WaitsOn result conn.new.held }

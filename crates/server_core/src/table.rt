@@ -1,5 +1,5 @@
 //! The table of clients, in the order of their links, and what each event of a link does in it.
-ghost use Rattle.std.specs.Prelude.{◌≡◌, ◌+◌, ◌≤◌, ◌<◌, vec_capacity};
+ghost use Rattle.std.specs.Prelude.{◌≡◌, ◌+◌, ◌≤◌, ◌<◌, length, vec_capacity};
 ghost use Rattle.lt_world.specs.Trace.{Accepted};
 ghost use Rattle.server_model.specs.Held.{IsPlace};
 ghost use Rattle.server_model.specs.Files.{IsTable, Backs};
@@ -63,7 +63,7 @@ pub(crate) fn accept_on<N: Net, F: Files>(
     requires places { ArePlaces clients.old.items places.old.items (vec_capacity clients.old) (vec_capacity places.old) }
     requires table { IsTable arrival.link.0 (helds clients.old.items) }
     requires backs { F.tells → Backs (F.disk files.now).table (helds clients.old.items) }
-    ensures turn { TurnsOn (Accepted arrival.peer arrival.local) arrival.link.0 (serving site.now clients.old.items) (serving site.now clients.new.items) N.tells F.tells
+    ensures turn { TurnsOn (Accepted arrival.peer arrival.local) arrival.link.0 (serving site.now clients.old.items) (serving site.now clients.new.items) N.tells F.tells (length store.old.free)
         (seen_as (F.disk files.now) (F.faults files.now) (F.reads files.now)) (seen_as (F.disk files.now) (F.faults files.now) (F.reads files.now))
         (N.trace net.old) (N.trace net.new) }
     ensures filled { store.new.filled ≡ store.old.filled }
@@ -107,7 +107,7 @@ pub(crate) fn step_on<N: Net, F: Files>(
     requires kept { IsKept store.old clients.old.items }
     requires places { ArePlaces clients.old.items places.old.items (vec_capacity clients.old) (vec_capacity places.old) }
     requires backs { F.tells → Backs (F.disk files.old).table (helds clients.old.items) }
-    ensures turn { TurnsOn (event_of ready) link.0 (serving site.now clients.old.items) (serving site.now clients.new.items) N.tells F.tells
+    ensures turn { TurnsOn (event_of ready) link.0 (serving site.now clients.old.items) (serving site.now clients.new.items) N.tells F.tells (length store.old.free)
         (seen_as (F.disk files.old) (F.faults files.old) (F.reads files.old)) (seen_as (F.disk files.new) (F.faults files.new) (F.reads files.new))
         (N.trace net.old) (N.trace net.new) }
     ensures filled { store.new.filled ≤ store.old.filled + TURN_FILL }

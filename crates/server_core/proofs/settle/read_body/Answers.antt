@@ -3,7 +3,7 @@ use Rattle.lt_world.specs.declared.net.Ending.TheVariants as ending
 use Rattle.server_model.specs.Held.{Held}
 use Rattle.connection.specs.Stages.{stage_of}
 use Rattle.request_plan.specs.Lent.{lent}
-use Rattle.server_core.proofs.Advancing.{headed_heading, accepted_input}
+use Rattle.server_core.proofs.Advancing.{headed_heading, headed_wants, accepted_input}
 use Rattle.server_core.proofs.Settling.{body_limit, settles_unread, body_idle, body_free, body_fits, body_read, body_then, body_goes, body_link, step_fits, step_link}
 use Rattle.server_core.proofs.settle.read_body.Goals as goal
 
@@ -12,7 +12,7 @@ accept_body-requires-clause-heading g c = headed_heading c.args.conn.now.held c.
 
 pub returns-in_default-clause-settles : goal.returns-in_default-clause-settles
 returns-in_default-clause-settles g c = settles_unread c.args.site.now c.args.conn.now.held c.accept_body.new.self.held g.F.Files.tells (g.F.Files.disk c.args.files.now)
-    (ap (λ (h : Held). h.link) c.in_default.ensures.err) (ap (λ (h : Held). h.file) c.in_default.ensures.err)
+    (headed_wants c.args.conn.now.held c.requires.heading) (ap (λ (h : Held). h.link) c.in_default.ensures.err) (ap (λ (h : Held). h.file) c.in_default.ensures.err)
 
 pub returns-in_default-clause-link : goal.returns-in_default-clause-link
 returns-in_default-clause-link g c = ap (λ (h : Held). h.link) c.in_default.ensures.err
@@ -22,14 +22,14 @@ returns-in_default-advance-clause-settles g c =
     body_then c.args.site.now c.args.conn.now.held c.accept_body.new.self.held g.F.Files.tells (g.F.Files.disk c.args.files.now) c.settings_of-settings.result.server_max_request_size (body_limit c.args.site.now c.args.conn.now.held (lent c.settings_of-settings.result) c.settings_of-settings.ensures.settings) c.requires.heading c.requires.free c.in-Ok.ensures.ok
     c.advance.new.self.held (g.F.Files.disk c.args.files.now) (Some ending.NoMemory)
     (settles_unread c.args.site.now c.accept_body.new.self.held c.advance.new.self.held g.F.Files.tells (g.F.Files.disk c.args.files.now)
-    (ap (λ (h : Held). h.link) c.in_default-advance.ensures.err.0) (ap (λ (h : Held). h.file) c.in_default-advance.ensures.err.0))
+    c.in_default-advance.ensures.wants (ap (λ (h : Held). h.link) c.in_default-advance.ensures.err) (ap (λ (h : Held). h.file) c.in_default-advance.ensures.err))
 
 pub returns-in_default-advance-clause-filled : goal.returns-in_default-advance-clause-filled
 returns-in_default-advance-clause-filled g c =
     omega (arith, c.accept_body.ensures.filled, c.in_default-advance.ensures.filled, ap (λ (h : Held). length h.input) c.in-Ok.ensures.ok, ap length (accepted_input c.args.conn.now.held c.settings_of-settings.result.server_max_request_size))
 
 pub returns-in_default-advance-clause-link : goal.returns-in_default-advance-clause-link
-returns-in_default-advance-clause-link g c = ap (λ (h : Held). h.link) c.in_default-advance.ensures.err.0
+returns-in_default-advance-clause-link g c = ap (λ (h : Held). h.link) c.in_default-advance.ensures.err
     ∙ body_link c.args.site.now c.args.conn.now.held c.accept_body.new.self.held g.F.Files.tells (g.F.Files.disk c.args.files.now) c.settings_of-settings.result.server_max_request_size (body_limit c.args.site.now c.args.conn.now.held (lent c.settings_of-settings.result) c.settings_of-settings.ensures.settings) c.requires.heading c.requires.free c.in-Ok.ensures.ok
 
 pub go_on-requires-clause-advanced : goal.go_on-requires-clause-advanced

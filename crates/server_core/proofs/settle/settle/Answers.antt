@@ -1,16 +1,16 @@
 use Rattle.std.proofs.Common.{sym, ap, ◌∙◌, subst}
 use Rattle.server_model.specs.Held.{Held}
 use Rattle.server_core.specs.Steps.{IsFree}
-use Rattle.server_core.proofs.Advancing.{heads_looks, advanced_free}
+use Rattle.server_core.proofs.Advancing.{heads_wants, advanced_free}
 use Rattle.server_core.proofs.Settling.{settles_unlooked, step_goes, step_reads, step_fits, step_link}
 use Rattle.server_core.proofs.settle.settle.Goals as goal
 
 pub returns-in_default-clause-settles : goal.returns-in_default-clause-settles
 returns-in_default-clause-settles g c = settles_unlooked c.args.site.now c.args.conn.now.held c.advance.new.self.held g.F.Files.tells (g.F.Files.disk c.args.files.now)
-    (ap (λ (h : Held). h.link) c.in_default.ensures.err.0) (ap (λ (h : Held). h.file) c.in_default.ensures.err.0) c.in_default.ensures.err.1
+    (ap (λ (h : Held). h.link) c.in_default.ensures.err) (ap (λ (h : Held). h.file) c.in_default.ensures.err) c.in_default.ensures.wants
 
 pub returns-in_default-clause-link : goal.returns-in_default-clause-link
-returns-in_default-clause-link g c = ap (λ (h : Held). h.link) c.in_default.ensures.err.0
+returns-in_default-clause-link g c = ap (λ (h : Held). h.link) c.in_default.ensures.err
 
 pub read_body-requires-clause-heading : goal.read_body-requires-clause-heading
 read_body-requires-clause-heading g c = sym c.in-Ok.ensures.stage ∙ c.in-Head.is
@@ -23,7 +23,7 @@ read_body-requires-clause-fits g c = step_fits c.args.site.now c.args.conn.now.h
 
 pub returns-in-Head-clause-settles : goal.returns-in-Head-clause-settles
 returns-in-Head-clause-settles g c = step_reads c.args.site.now c.args.conn.now.held c.advance.new.self.held g.F.Files.tells (g.F.Files.disk c.args.files.now) c.requires.free c.in-Ok.ensures.ok
-    (heads_looks c.args.conn.now.held c.advance.new.self.held c.in-Ok.ensures.ok c.requires.idle (sym c.in-Ok.ensures.stage ∙ c.in-Head.is))
+    (heads_wants c.args.conn.now.held c.advance.new.self.held c.in-Ok.ensures.ok c.requires.idle (sym c.in-Ok.ensures.stage ∙ c.in-Head.is))
     c.read_body.new.conn.held (g.F.Files.disk c.read_body.new.files) c.read_body.result c.read_body.ensures.settles
 
 pub returns-in-Head-clause-link : goal.returns-in-Head-clause-link

@@ -1,12 +1,12 @@
 use Rattle.server_model.proofs.ReadSteps.{read_idle}
 use Rattle.server_core.proofs.Stepped.{room_wants, no_room}
-use Rattle.std.proofs.Common.{refl}
+use Rattle.std.proofs.Common.{length, refl}
 use Rattle.server_core.specs.Offers.{OffersOn}
 use Rattle.server_core.proofs.Offering.{gains_none}
 use Rattle.server_core.proofs.step.read_for.Goals as goal
 
 pub returns-then-room-eq0-clause-goes : goal.returns-then-room-eq0-clause-goes
-returns-then-room-eq0-clause-goes g c = read_idle c.args.site.now c.args.conn.now.held g.N.Net.tells g.F.Files.tells (g.F.Files.disk c.args.files.now) (g.N.Net.trace c.args.net.now)
+returns-then-room-eq0-clause-goes g c = read_idle (length c.args.store.now.free) c.args.site.now c.args.conn.now.held g.N.Net.tells g.F.Files.tells (g.F.Files.disk c.args.files.now) (g.N.Net.trace c.args.net.now)
     (no_room c.args.conn.now.held c.room-room.result c.room-room.ensures.room c.if-room-eq0.true) c.requires.fits
 
 pub receive-requires-clause-wants : goal.receive-requires-clause-wants

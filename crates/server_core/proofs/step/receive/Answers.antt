@@ -1,18 +1,19 @@
-use Rattle.std.proofs.Common.{length, take, sym, ap, ◌∙◌, subst}
+use Rattle.std.proofs.Common.{length, take, sym, ap, ◌∙◌, subst, arith, length-take}
 use Rattle.lt_world.specs.Trace.{Read, ReadEnd, NotYet, Failed, Reading}
 use Rattle.server_model.specs.Held.{Held}
 use Rattle.server_model.specs.Files.{Fits}
 use Rattle.server_model.specs.Steps.{received, received_end}
 use Rattle.server_model.proofs.ReadSteps.{read_yields, read_then, read_end_then, read_not_yet, read_failed}
 use Rattle.server_core.specs.Steps.{is_idle, IsFree}
-use Rattle.server_core.proofs.Stepped.{tells_at, rests_idle, settles_read}
+use Rattle.server_core.proofs.Stepped.{unspared, tells_at, rests_idle, settles_read}
 use Rattle.server_core.specs.Offers.{OffersOn}
 use Rattle.server_core.proofs.Offering.{gains_one}
 use Rattle.server_core.proofs.step.receive.Goals as goal
 
 pub returns-in_default-clause-goes : goal.returns-in_default-clause-goes
 returns-in_default-clause-goes g c =
-    read_yields c.args.site.now c.args.conn.now.held g.N.Net.tells g.F.Files.tells (g.F.Files.disk c.args.files.now) (g.N.Net.trace c.args.net.now) (g.N.Net.trace c.read.new.self) c.requires.wants c.got.new.self.held (length c.read.new.buf) (take c.in-Bytes.n c.read.new.buf)
+    read_yields (length c.args.store.now.free) c.args.site.now c.args.conn.now.held g.N.Net.tells g.F.Files.tells (g.F.Files.disk c.args.files.now) (g.N.Net.trace c.args.net.now) (g.N.Net.trace c.read.new.self) c.requires.wants c.got.new.self.held
+    (unspared (take c.in-Bytes.n c.read.new.buf) (length c.args.store.now.free) (omega (arith, length-take c.in-Bytes.n c.read.new.buf, c.in-Bytes.ensures.within, c.requires.most)) c.in_default.ensures.spare) (length c.read.new.buf) (take c.in-Bytes.n c.read.new.buf)
     (λ t. tells_at c.link.result.0 c.args.conn.now.held.link (Read (length c.read.new.buf) (take c.in-Bytes.n c.read.new.buf)) (g.N.Net.trace c.args.net.now) (g.N.Net.trace c.read.new.self) c.link.ensures.link (c.in-Bytes.ensures.trace t))
     (ap (λ (h : Held). h.link) c.in_default.ensures.err) (ap (λ (h : Held). h.file) c.in_default.ensures.err)
 
@@ -27,24 +28,24 @@ settle-requires-clause-fits g c f = let fits = c.requires.fits f in subst (Fits 
 
 pub returns-in-Ok-clause-goes : goal.returns-in-Ok-clause-goes
 returns-in-Ok-clause-goes g c =
-    read_then c.args.site.now c.args.conn.now.held g.N.Net.tells g.F.Files.tells (g.F.Files.disk c.args.files.now) (g.N.Net.trace c.args.net.now) (g.N.Net.trace c.read.new.self) c.requires.wants (g.F.Files.disk c.settle.new.files) c.settle.new.conn.held c.settle.result (length c.read.new.buf) (take c.in-Bytes.n c.read.new.buf)
+    read_then (length c.args.store.now.free) c.args.site.now c.args.conn.now.held g.N.Net.tells g.F.Files.tells (g.F.Files.disk c.args.files.now) (g.N.Net.trace c.args.net.now) (g.N.Net.trace c.read.new.self) c.requires.wants (g.F.Files.disk c.settle.new.files) c.settle.new.conn.held c.settle.result (length c.read.new.buf) (take c.in-Bytes.n c.read.new.buf)
     (λ t. tells_at c.link.result.0 c.args.conn.now.held.link (Read (length c.read.new.buf) (take c.in-Bytes.n c.read.new.buf)) (g.N.Net.trace c.args.net.now) (g.N.Net.trace c.read.new.self) c.link.ensures.link (c.in-Bytes.ensures.trace t))
     (settles_read c.args.site.now c.got.new.self.held (received c.args.conn.now.held (take c.in-Bytes.n c.read.new.buf)) c.settle.new.conn.held g.F.Files.tells (g.F.Files.disk c.args.files.now) (g.F.Files.disk c.settle.new.files) c.settle.result c.in-Ok.ensures.ok c.settle.ensures.settles)
 
 pub returns-in-End-clause-goes : goal.returns-in-End-clause-goes
 returns-in-End-clause-goes g c =
-    read_end_then c.args.site.now c.args.conn.now.held g.N.Net.tells g.F.Files.tells (g.F.Files.disk c.args.files.now) (g.N.Net.trace c.args.net.now) (g.N.Net.trace c.read.new.self) c.requires.wants (g.F.Files.disk c.settle-in-End.new.files) c.settle-in-End.new.conn.held c.settle-in-End.result
+    read_end_then (length c.args.store.now.free) c.args.site.now c.args.conn.now.held g.N.Net.tells g.F.Files.tells (g.F.Files.disk c.args.files.now) (g.N.Net.trace c.args.net.now) (g.N.Net.trace c.read.new.self) c.requires.wants (g.F.Files.disk c.settle-in-End.new.files) c.settle-in-End.new.conn.held c.settle-in-End.result
     (λ t. tells_at c.link.result.0 c.args.conn.now.held.link ReadEnd (g.N.Net.trace c.args.net.now) (g.N.Net.trace c.read.new.self) c.link.ensures.link (c.in-End.ensures.trace t))
     (settles_read c.args.site.now c.ended.new.self.held (received_end c.args.conn.now.held) c.settle-in-End.new.conn.held g.F.Files.tells (g.F.Files.disk c.args.files.now) (g.F.Files.disk c.settle-in-End.new.files) c.settle-in-End.result c.ended.ensures.held c.settle-in-End.ensures.settles)
 
 pub returns-in-NotYet-clause-goes : goal.returns-in-NotYet-clause-goes
 returns-in-NotYet-clause-goes g c =
-    read_not_yet c.args.site.now c.args.conn.now.held g.N.Net.tells g.F.Files.tells (g.F.Files.disk c.args.files.now) (g.N.Net.trace c.args.net.now) (g.N.Net.trace c.read.new.self) c.requires.wants
+    read_not_yet (length c.args.store.now.free) c.args.site.now c.args.conn.now.held g.N.Net.tells g.F.Files.tells (g.F.Files.disk c.args.files.now) (g.N.Net.trace c.args.net.now) (g.N.Net.trace c.read.new.self) c.requires.wants
     (λ t. tells_at c.link.result.0 c.args.conn.now.held.link (NotYet Reading) (g.N.Net.trace c.args.net.now) (g.N.Net.trace c.read.new.self) c.link.ensures.link (c.in-NotYet.ensures.trace t)) c.requires.fits
 
 pub returns-in-Failed-clause-goes : goal.returns-in-Failed-clause-goes
 returns-in-Failed-clause-goes g c =
-    read_failed c.args.site.now c.args.conn.now.held g.N.Net.tells g.F.Files.tells (g.F.Files.disk c.args.files.now) (g.N.Net.trace c.args.net.now) (g.N.Net.trace c.read.new.self) c.requires.wants
+    read_failed (length c.args.store.now.free) c.args.site.now c.args.conn.now.held g.N.Net.tells g.F.Files.tells (g.F.Files.disk c.args.files.now) (g.N.Net.trace c.args.net.now) (g.N.Net.trace c.read.new.self) c.requires.wants
     (λ t. tells_at c.link.result.0 c.args.conn.now.held.link (Failed Reading) (g.N.Net.trace c.args.net.now) (g.N.Net.trace c.read.new.self) c.link.ensures.link (c.in-Failed.ensures.trace t))
 
 pub returns-in_default-clause-offers : goal.returns-in_default-clause-offers
