@@ -197,10 +197,16 @@ impl<'c> Server<'c> {
         }
     }
 
-    /// Ends the server: it gives every file back that it keeps. No client is told.
-    pub fn close<F: Files>(self, files: &mut F)
+    /// Ends the server: it gives every file and every buffer back. No client is told, and it takes no memory. Answers where
+    /// the buffers were then.
+    pub fn close<F: Files>(self, files: &mut F) -> Held
         requires backs { F.tells → Backs (F.disk files.old).table self.table }
         ensures disk { F.tells → F.disk files.new ≡ all_freed self.entry.table (F.disk files.old) }
+
+        // Every buffer was spare.
+        ensures made { self.entry.pool.made ≤ result.made }
+        ensures free { result.free ≡ result.made }
+        ensures queued { result.queued ≡ 0 }
 
         // Where it serves, no file is open then.
         ensures none_open { F.tells → (trace : List Entry) → Serves (F.disk files.old) (serving_at self.entry) trace → (file : ℕ) → (F.disk files.new).table file ≡ None }
@@ -216,10 +222,16 @@ impl<'c> Server<'c> {
             scratch: _,
         } = self;
         give_back(&mut clients, &mut store, files);
-        clients.destroy_empty();
         clear(&mut places, &mut store);
+        let held = Held {
+            made: store.made(),
+            free: store.spare(),
+            queued: queued(&clients),
+        };
+        clients.destroy_empty();
         places.destroy_empty();
         store.close();
+        held
     }
 }
 
@@ -278,6 +290,7 @@ fn give_back<F: Files>(clients: &mut Vec<Client>, store: &mut Store, files: &mut
     requires backs { F.tells → Backs (F.disk files.old).table (helds clients.old.items) }
     // Every buffer is spare then.
     ensures spare { Kept unused [] store.new [] }
+    ensures made { store.old.made ≤ store.new.made }
     ensures empty { clients.new.items ≡ [] }
     ensures disk { F.tells → F.disk files.new ≡ all_freed (helds clients.old.items) (F.disk files.old) }
     ensures reads { F.reads files.new ≡ F.reads files.old }
