@@ -3,3 +3,5 @@ pub mod Tables
 pub mod Evaluated
 pub mod Forms
 pub mod Loads
+pub mod Determined
+pub mod FirstCall

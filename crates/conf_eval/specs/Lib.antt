@@ -8,3 +8,4 @@ pub mod Global
 pub mod Load
 pub mod Trees
 pub mod Answers
+pub mod Outcomes

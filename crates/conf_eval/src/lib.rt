@@ -9,6 +9,7 @@
 mod fault;
 mod halt;
 mod include;
+pub mod laws;
 mod limits;
 mod loader;
 mod loading;

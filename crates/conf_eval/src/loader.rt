@@ -3,6 +3,7 @@ ghost use Rattle.std.specs.Prelude.{◌≡◌, ◌≤◌, ℕ, None, IfOk};
 ghost use Rattle.settings.specs.InForm.{AreGoodSettings, IsInForm};
 ghost use Rattle.conf_eval.specs.Answers.{Cause, Closes, Loads, Ran, state_of};
 ghost use Rattle.conf_eval.specs.Load as spec;
+ghost use Rattle.conf_eval.specs.Outcomes.{FirstSays};
 
 use crate::include::{fault, text};
 use crate::limits::{MAX_INCLUDES, MAX_TEXTS};
@@ -18,6 +19,7 @@ use std::alloc::Global;
 /// includes at their places.
 pub fn load<X: Texts>(alloc: Global, name: &[u8], texts: &mut X) -> Result<Loaded, LoadError>
     ensures loads { X.tells → Loads (spec.load (X.texts texts.old) name.now) (X.calls texts.old) (X.calls texts.new) result }
+    ensures first { X.tells → FirstSays result name.now (X.calls texts.old) (X.calls texts.new) }
     ensures in_form { IfOk result (λ loaded. IsInForm loaded.config) }
     ensures same { X.tells → X.texts texts.new ≡ X.texts texts.old }
     ensures cause { Cause result (X.faults texts.old) (X.faults texts.new) }
@@ -40,6 +42,7 @@ fn root<X: Texts>(loading: &mut Loading, texts: &mut X, name: &[u8]) -> Result<(
     requires { state_of loading.old ≡ spec.start }
     ensures same { X.tells → X.texts texts.new ≡ X.texts texts.old }
     ensures ran { X.tells → Ran (spec.root (X.texts texts.old) name.now) (state_of loading.old) (X.calls texts.old) (X.calls texts.new) result (state_of loading.new) }
+    ensures first { X.tells → FirstSays result name.now (X.calls texts.old) (X.calls texts.new) }
     ensures cause { Cause result (X.faults texts.old) (X.faults texts.new) }
     ensures faults { X.faults texts.old ≤ X.faults texts.new }
 {

@@ -9,6 +9,7 @@ use Rattle.conf_eval.specs.Answers.{Ran, state_of}
 use Rattle.conf_eval.specs.Global.{at_top}
 use Rattle.conf_eval.specs.Load as spec
 use Rattle.conf_eval.proofs.Loads.{root_stops, root_text, gives_missing, gives_long}
+use Rattle.conf_eval.proofs.FirstCall.{first_text}
 use Rattle.conf_eval.proofs.loader.root.Goals as goal
 
 pub returns-in-Missing-clause-ran : goal.returns-in-Missing-clause-ran
@@ -38,3 +39,8 @@ returns-in-Text-clause-ran g c told =
     c.in-Text.found c.text.result (c.in-Text.ensures.calls told) right.0 (rw (room (state_of c.args.loading.now) c.requires) right.1)
     (subst (λ (l : Library). Ran (spec.text l 16 at_top c.in-Text.found) (state_of c.args.loading.now) (g.X.Texts.calls c.fetch.new.self) (g.X.Texts.calls c.text.new.texts) c.text.result (state_of c.text.new.loading)) (c.in-Text.ensures.texts told)
     (subst (λ (b : List ℕ). Ran (spec.text (g.X.Texts.texts c.fetch.new.self) 16 at_top b) (state_of c.args.loading.now) (g.X.Texts.calls c.fetch.new.self) (g.X.Texts.calls c.text.new.texts) c.text.result (state_of c.text.new.loading)) c.bytes.ensures.value (c.text.ensures.ran told)))
+
+pub returns-in-Text-clause-first : goal.returns-in-Text-clause-first
+returns-in-Text-clause-first g c told =
+    first_text c.args.name.now (g.X.Texts.calls c.args.texts.now) (g.X.Texts.calls c.fetch.new.self) (g.X.Texts.calls c.text.new.texts) (c.in-Text.ensures.calls told)
+    (g.X.Texts.texts c.fetch.new.self) 16 at_top c.bytes.result.now (state_of c.args.loading.now) (state_of c.text.new.loading) c.text.result (c.text.ensures.ran told)
