@@ -1,4 +1,4 @@
-//! The program: `replay` serves the clients of a script, `-p` prints a configuration.
+//! The program: `replay` serves the clients of a script, `-t` checks a configuration, `-p` prints one.
 //! What a call does is `lt_commands`; named texts are `files_disk`'s. Here is the edge of the process: its words,
 //! standard output (`out_sink`), and its end (`ending`), the status's text on standard error and its number.
 #![tactic(auto)]

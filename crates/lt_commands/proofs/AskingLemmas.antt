@@ -1,8 +1,7 @@
--- From what reading each text asks to what a whole call asks.
-use Rattle.std.proofs.Common.{◌≡◌, ℕ, List, ◌∷◌, ◌∙◌, ap, inl, inr}
+-- From what loading a configuration and reading a text ask to what a whole call asks.
+use Rattle.std.proofs.Common.{◌≡◌, ℕ, List, ◌∙◌, inl, inr}
 use Rattle.std.specs.Prelude.{Err}
 use Rattle.lt_script.specs.declared.script.Script.{Script}
-use Rattle.conf_parse.specs.declared.tree.Tree.{Tree}
 use Rattle.lt_world.specs.TextAnswers.{Library}
 use Rattle.lt_world.specs.declared.net.NextKind.{NextKind}
 use Rattle.lt_world.specs.declared.texts.Fetch.{Fetch}
@@ -10,61 +9,78 @@ use Rattle.lt_world.specs.declared.texts.FetchKind.{FetchKind}
 use Rattle.lt_world.specs.declared.texts.FetchKind.TheVariants as fetch
 use Rattle.lt_commands.specs.declared.status.Status.{Status}
 use Rattle.lt_commands.specs.declared.status.Status.TheVariants as status
-use Rattle.lt_commands.specs.Fetching.{AsksBoth, ReplayAsks, PrintAsks}
-use Rattle.lt_commands.specs.Offline.{HasSomeRoot, PlaySays}
+use Rattle.lt_commands.specs.Fetching.{AsksConf, AsksBoth, ReplayAsks, CheckAsks, PrintAsks}
+use Rattle.lt_commands.specs.Loading.{LoadsAs}
+use Rattle.lt_commands.specs.Offline.{PlaySays}
 use Rattle.lt_commands.specs.Printing.{TreeSays}
-use Rattle.lt_commands.specs.Reading.{Asks, AsksFor, ConfSays, ScriptSays}
+use Rattle.conf_parse.specs.declared.tree.Tree.{Tree}
+use Rattle.lt_commands.specs.Reading.{Asks, AsksFor, ScriptSays}
 
--- the configuration was refused: nothing else was asked for
-pub conf_asks : (answer : Status) (conf script : List ℕ) (held : Library) (before after : List Fetch) → ConfSays (Err answer) (held conf) → Asks {A = List ℕ} (Err answer) conf before after → ReplayAsks answer conf script held before after
-conf_asks (status.Missing number) conf script held before after says asks = inl (says.0, asks)
-conf_asks (status.Conf fault) conf script held before after says asks = asks
-conf_asks status.TextFault conf script held before after says asks = inl asks
-conf_asks status.NoMemory conf script held before after says (inl none) = inl none
-conf_asks status.NoMemory conf script held before after says (inr one) = inr (inl one)
-conf_asks (status.Script line) conf script held before after says asks = absurd says
-conf_asks status.Usage conf script held before after says asks = absurd says
-conf_asks status.Done conf script held before after says asks = absurd says
-conf_asks status.SinkFault conf script held before after says asks = absurd says
+module _ (conf script : List ℕ) (library : Library) (before mid after : List Fetch) where
+  -- the configuration was refused: nothing else was asked for
+  pub conf_asks : (answer : Status) → LoadsAs (Err answer) conf library before after → ReplayAsks answer conf script library before after
+  conf_asks (status.Missing number) loads = inl loads
+  conf_asks (status.Conf fault) loads = loads
+  conf_asks status.TextFault loads = inl loads
+  conf_asks status.NoMemory loads = inl loads
+  conf_asks (status.Script line) loads = absurd loads.ends
+  conf_asks status.Usage loads = absurd loads.ends
+  conf_asks status.Done loads = absurd loads.ends
+  conf_asks status.SinkFault loads = absurd loads.ends
 
--- two calls, one after the other
-pub both_asked : (answer : FetchKind) (conf script : List ℕ) (held : Library) (before mid after : List Fetch) → HasSomeRoot (held conf) → AsksFor conf fetch.Text before mid → AsksFor script answer mid after → AsksBoth conf script answer held before after
-both_asked answer conf script held before mid after root first second = record {
-  accepted = root;
-  asked = second ∙ ap (λ (calls : List Fetch). record { name = script; answer = answer } ∷ calls) first;
-}
+  both_asked : (answer : FetchKind) → AsksConf conf library before mid → AsksFor script answer mid after → AsksBoth conf script answer library before after
+  both_asked answer accepted asked = record { mid = mid; accepted = accepted; asked = asked }
 
--- the configuration was accepted, and the script was refused
-pub script_asks : (answer : Status) (conf script : List ℕ) (held : Library) (before mid after : List Fetch) → HasSomeRoot (held conf) → AsksFor conf fetch.Text before mid → ScriptSays (Err answer) (held script) → Asks {A = Script} (Err answer) script mid after → ReplayAsks answer conf script held before after
-script_asks (status.Missing number) conf script held before mid after root first says asks = inr (says.0, both_asked fetch.Missing conf script held before mid after root first asks)
-script_asks (status.Script line) conf script held before mid after root first says (inl text) = inl (both_asked fetch.Text conf script held before mid after root first text)
-script_asks (status.Script line) conf script held before mid after root first says (inr long) = inr (both_asked fetch.Long conf script held before mid after root first long)
-script_asks status.TextFault conf script held before mid after root first says asks = inr (both_asked fetch.Failed conf script held before mid after root first asks)
-script_asks status.NoMemory conf script held before mid after root first says (inl none) = inr (inl (none ∙ first))
-script_asks status.NoMemory conf script held before mid after root first says (inr text) = inr (inr (both_asked fetch.Text conf script held before mid after root first text))
-script_asks (status.Conf fault) conf script held before mid after root first says asks = absurd says
-script_asks status.Usage conf script held before mid after root first says asks = absurd says
-script_asks status.Done conf script held before mid after root first says asks = absurd says
-script_asks status.SinkFault conf script held before mid after root first says asks = absurd says
+  -- nothing was asked for besides
+  unasked : after ≡ mid → AsksConf conf library before mid → AsksConf conf library before after
+  unasked same accepted = (accepted.0, record { asked = accepted.1.asked; calls = same ∙ accepted.1.calls; ends = accepted.1.ends })
 
--- both were accepted
-pub play_asks : (answer : Status) (last : NextKind) (conf script : List ℕ) (held : Library) (before after : List Fetch) → PlaySays answer last → AsksBoth conf script fetch.Text held before after → ReplayAsks answer conf script held before after
-play_asks status.Done last conf script held before after ends asks = asks
-play_asks status.SinkFault last conf script held before after ends asks = asks
-play_asks status.NoMemory last conf script held before after ends asks = inr (inr asks)
-play_asks (status.Conf fault) last conf script held before after ends asks = absurd ends
-play_asks status.Usage last conf script held before after ends asks = absurd ends
-play_asks (status.Script line) last conf script held before after ends asks = absurd ends
-play_asks status.TextFault last conf script held before after ends asks = absurd ends
-play_asks (status.Missing number) last conf script held before after ends asks = absurd ends
+  -- the configuration was accepted, and the script was refused
+  pub script_asks : (answer : Status) → AsksConf conf library before mid → ScriptSays (Err answer) (library script) → Asks {A = Script} (Err answer) script mid after → ReplayAsks answer conf script library before after
+  script_asks (status.Missing number) accepted says asks = inr (says.0, both_asked fetch.Missing accepted asks)
+  script_asks (status.Script line) accepted says (inl text) = inl (both_asked fetch.Text accepted text)
+  script_asks (status.Script line) accepted says (inr long) = inr (both_asked fetch.Long accepted long)
+  script_asks status.TextFault accepted says asks = inr (both_asked fetch.Failed accepted asks)
+  script_asks status.NoMemory accepted says (inl none) = inr (inl (unasked none accepted))
+  script_asks status.NoMemory accepted says (inr text) = inr (inr (both_asked fetch.Text accepted text))
+  script_asks (status.Conf fault) accepted says asks = absurd says
+  script_asks status.Usage accepted says asks = absurd says
+  script_asks status.Done accepted says asks = absurd says
+  script_asks status.SinkFault accepted says asks = absurd says
+
+  -- both were accepted, and then memory was wanted
+  pub loaded_asks : AsksConf conf library before mid → AsksFor script fetch.Text mid after → ReplayAsks status.NoMemory conf script library before after
+  loaded_asks accepted asked = inr (inr (both_asked fetch.Text accepted asked))
+
+  -- both were accepted
+  pub play_asks : (answer : Status) (last : NextKind) → PlaySays answer last → AsksConf conf library before mid → AsksFor script fetch.Text mid after → ReplayAsks answer conf script library before after
+  play_asks status.Done last ends accepted asked = both_asked fetch.Text accepted asked
+  play_asks status.SinkFault last ends accepted asked = both_asked fetch.Text accepted asked
+  play_asks status.NoMemory last ends accepted asked = loaded_asks accepted asked
+  play_asks (status.Conf fault) last ends accepted asked = absurd ends
+  play_asks status.Usage last ends accepted asked = absurd ends
+  play_asks (status.Script line) last ends accepted asked = absurd ends
+  play_asks status.TextFault last ends accepted asked = absurd ends
+  play_asks (status.Missing number) last ends accepted asked = absurd ends
+
+-- the configuration that was to be checked was refused
+pub check_asks : (answer : Status) (conf : List ℕ) (library : Library) (before after : List Fetch) → LoadsAs (Err answer) conf library before after → CheckAsks answer conf library before after
+check_asks (status.Missing number) conf library before after loads = loads
+check_asks (status.Conf fault) conf library before after loads = loads
+check_asks status.TextFault conf library before after loads = loads
+check_asks status.NoMemory conf library before after loads = inl loads
+check_asks (status.Script line) conf library before after loads = absurd loads.ends
+check_asks status.Usage conf library before after loads = absurd loads.ends
+check_asks status.Done conf library before after loads = absurd loads.ends
+check_asks status.SinkFault conf library before after loads = absurd loads.ends
 
 -- the configuration that was to be printed was refused
-pub print_asks : (answer : Status) (conf : List ℕ) (held : Library) (before after : List Fetch) → TreeSays (Err answer) (held conf) → Asks {A = Tree} (Err answer) conf before after → PrintAsks answer conf before after
-print_asks (status.Missing number) conf held before after says asks = asks
-print_asks (status.Conf fault) conf held before after says asks = asks
-print_asks status.TextFault conf held before after says asks = asks
-print_asks status.NoMemory conf held before after says asks = asks
-print_asks (status.Script line) conf held before after says asks = absurd says
-print_asks status.Usage conf held before after says asks = absurd says
-print_asks status.Done conf held before after says asks = absurd says
-print_asks status.SinkFault conf held before after says asks = absurd says
+pub print_asks : (answer : Status) (conf : List ℕ) (library : Library) (before after : List Fetch) → TreeSays (Err answer) (library conf) → Asks {A = Tree} (Err answer) conf before after → PrintAsks answer conf before after
+print_asks (status.Missing number) conf library before after says asks = asks
+print_asks (status.Conf fault) conf library before after says asks = asks
+print_asks status.TextFault conf library before after says asks = asks
+print_asks status.NoMemory conf library before after says asks = asks
+print_asks (status.Script line) conf library before after says asks = absurd says
+print_asks status.Usage conf library before after says asks = absurd says
+print_asks status.Done conf library before after says asks = absurd says
+print_asks status.SinkFault conf library before after says asks = absurd says

@@ -1,6 +1,7 @@
 mod OfflineLemmas
-mod RootLemmas
 mod WordsLemmas
+mod LoadLemmas
+mod WarningLemmas
 mod RunLemmas
 mod CalmLemmas
 mod AskingLemmas

@@ -1,13 +1,14 @@
 -- What a run over a script means for the script.
-use Rattle.std.proofs.Common.{◌≡◌, ℕ, List, [], sym, ap, ◌∙◌}
-use Rattle.std.specs.Prelude.{Option}
+use Rattle.std.proofs.Common.{◌≡◌, ℕ, List, [], sym, ap, ◌∙◌, inl, inr}
 use Rattle.lt_world.specs.declared.net.NextKind.{NextKind}
 use Rattle.lt_commands.specs.declared.status.Status.{Status}
 use Rattle.lt_commands.specs.declared.status.Status.TheVariants as status
 use Rattle.std.specs.Prelude.{Err}
-use Rattle.lt_commands.specs.Reading.{HasScript, IsOnly}
-use Rattle.lt_commands.specs.Offline.{PlaySays, ReplaySays, HasSomeRoot, IsComplete}
-use Rattle.lt_script.specs.declared.script.Script.{Script}
+use Rattle.lt_world.specs.TextAnswers.{Library}
+use Rattle.conf_eval.specs.declared.fault.Loaded.{Loaded}
+use Rattle.lt_commands.specs.Loading.{HasSomeConf, IsOnlyConf, LoadSays}
+use Rattle.lt_commands.specs.Reading.{IsOnly, ScriptSays}
+use Rattle.lt_commands.specs.Offline.{PlaySays, ReplaySays, CheckSays, HasSomeScript, IsComplete, IsCompleteLoad}
 use Rattle.lt_script.specs.declared.script.Step.{Step}
 use Rattle.script_net.specs.Steps.{events_left}
 use Rattle.script_net.specs.Playing.{Playing, unplayed, IsLater}
@@ -26,15 +27,80 @@ plays_all steps a b begins later none =
     }
 
 -- a run that was begun answers as the texts want it
-pub play_says : (answer : Status) (last : NextKind) (conf script : Option (List ℕ)) → PlaySays answer last → HasSomeRoot conf → ((said : Script) × HasScript script said) → ReplaySays answer conf script
-play_says status.Done last conf script ends root said = (root, said)
-play_says status.SinkFault last conf script ends root said = (root, said)
-play_says status.NoMemory last conf script ends root said = tt
-play_says (status.Conf fault) last conf script ends root said = absurd ends
-play_says status.Usage last conf script ends root said = absurd ends
-play_says (status.Script line) last conf script ends root said = absurd ends
-play_says status.TextFault last conf script ends root said = absurd ends
-play_says (status.Missing number) last conf script ends root said = absurd ends
+pub play_says : (answer : Status) (last : NextKind) (library : Library) (conf script : List ℕ) → PlaySays answer last → HasSomeConf library conf → HasSomeScript (library script) → ReplaySays answer library conf script
+play_says status.Done last library conf script ends loaded said = (loaded, said)
+play_says status.SinkFault last library conf script ends loaded said = (loaded, said)
+play_says status.NoMemory last library conf script ends loaded said = tt
+play_says (status.Conf fault) last library conf script ends loaded said = absurd ends
+play_says status.Usage last library conf script ends loaded said = absurd ends
+play_says (status.Script line) last library conf script ends loaded said = absurd ends
+play_says status.TextFault last library conf script ends loaded said = absurd ends
+play_says (status.Missing number) last library conf script ends loaded said = absurd ends
+
+-- a configuration that was refused ends a replay, and a check
+pub conf_says : (answer : Status) (library : Library) (conf script : List ℕ) → LoadSays (Err answer) library conf → ReplaySays answer library conf script
+conf_says (status.Missing number) library conf script says = inl says
+conf_says (status.Conf fault) library conf script says = says
+conf_says status.TextFault library conf script says = tt
+conf_says status.NoMemory library conf script says = tt
+conf_says (status.Script line) library conf script says = absurd says
+conf_says status.Usage library conf script says = absurd says
+conf_says status.Done library conf script says = absurd says
+conf_says status.SinkFault library conf script says = absurd says
+
+pub check_says : (answer : Status) (library : Library) (conf : List ℕ) → LoadSays (Err answer) library conf → CheckSays answer library conf
+check_says (status.Missing number) library conf says = says
+check_says (status.Conf fault) library conf says = says
+check_says status.TextFault library conf says = tt
+check_says status.NoMemory library conf says = tt
+check_says (status.Script line) library conf says = absurd says
+check_says status.Usage library conf says = absurd says
+check_says status.Done library conf says = absurd says
+check_says status.SinkFault library conf says = absurd says
+
+-- the configuration was accepted, and the script was refused
+pub script_says : (answer : Status) (library : Library) (conf script : List ℕ) → HasSomeConf library conf → ScriptSays (Err answer) (library script) → ReplaySays answer library conf script
+script_says (status.Missing number) library conf script loaded says = inr (says.0, loaded, says.1)
+script_says (status.Script line) library conf script loaded says = (loaded, says)
+script_says status.TextFault library conf script loaded says = tt
+script_says status.NoMemory library conf script loaded says = tt
+script_says (status.Conf fault) library conf script loaded says = absurd says
+script_says status.Usage library conf script loaded says = absurd says
+script_says status.Done library conf script loaded says = absurd says
+script_says status.SinkFault library conf script loaded says = absurd says
+
+-- a refusal of texts that are good is one that they may have
+pub is_complete_load : (loaded : Loaded) (answer : Status) → IsOnlyConf loaded (Err answer) → IsCompleteLoad answer
+is_complete_load loaded (status.Conf fault) only = only
+is_complete_load loaded status.TextFault only = tt
+is_complete_load loaded status.NoMemory only = tt
+is_complete_load loaded status.Done only = absurd only
+is_complete_load loaded status.SinkFault only = absurd only
+is_complete_load loaded status.Usage only = absurd only
+is_complete_load loaded (status.Script line) only = absurd only
+is_complete_load loaded (status.Missing number) only = absurd only
+
+-- what is done with single texts is done with several
+pub complete_load : (answer : Status) → IsComplete answer → IsCompleteLoad answer
+complete_load status.Done done = tt
+complete_load status.NoMemory done = tt
+complete_load status.TextFault done = tt
+complete_load status.SinkFault done = tt
+complete_load (status.Conf fault) done = absurd done
+complete_load status.Usage done = absurd done
+complete_load (status.Script line) done = absurd done
+complete_load (status.Missing number) done = absurd done
+
+-- a run that was begun is done, but for want of memory and a fault of the sink
+pub play_complete : (answer : Status) (last : NextKind) → PlaySays answer last → IsCompleteLoad answer
+play_complete status.Done last ends = tt
+play_complete status.NoMemory last ends = tt
+play_complete status.SinkFault last ends = tt
+play_complete status.TextFault last ends = absurd ends
+play_complete (status.Conf fault) last ends = absurd ends
+play_complete status.Usage last ends = absurd ends
+play_complete (status.Script line) last ends = absurd ends
+play_complete (status.Missing number) last ends = absurd ends
 
 -- a refusal of a text that is good is one that a good text may have
 pub is_complete : {A : Type 0} (value : A) (answer : Status) → IsOnly value (Err answer) → IsComplete answer

@@ -1,8 +1,8 @@
 -- The number with which the program ends, and what it says on standard error.
 use Rattle.std.specs.Prelude.{ℕ, List, [], ◌++◌, codes}
 use Rattle.std.specs.Fmt.{decimal}
-use Rattle.lt_commands.specs.declared.status.ConfKind.{ConfKind}
-use Rattle.lt_commands.specs.declared.status.ConfKind.TheVariants as kind
+use Rattle.conf_eval.specs.declared.fault.ConfKind.{ConfKind}
+use Rattle.conf_eval.specs.declared.fault.ConfKind.TheVariants as kind
 use Rattle.lt_commands.specs.declared.status.Status.{Status}
 use Rattle.lt_commands.specs.declared.status.Status.TheVariants.{Done, Conf, Usage, Script, TextFault, SinkFault, NoMemory, Missing}
 

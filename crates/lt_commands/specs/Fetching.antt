@@ -1,33 +1,50 @@
--- Which texts a call asks for, and in which order: the script only after the configuration was accepted.
-use Rattle.std.specs.Prelude.{◌≡◌, ℕ, ◌⊎◌, List, ◌∷◌, Option}
+-- Which texts a call asks for, and in which order: those of the configuration, and the script only after it was loaded.
+use Rattle.std.specs.Prelude.{◌≡◌, ℕ, ◌⊎◌, List, Ok, Err}
 use Rattle.lt_world.specs.TextAnswers.{Library}
 use Rattle.lt_world.specs.declared.texts.Fetch.{Fetch}
 use Rattle.lt_world.specs.declared.texts.FetchKind.{FetchKind}
 use Rattle.lt_world.specs.declared.texts.FetchKind.TheVariants as fetch
+use Rattle.conf_eval.specs.declared.fault.Loaded.{Loaded}
 use Rattle.lt_commands.specs.declared.status.Status.{Status}
 use Rattle.lt_commands.specs.declared.status.Status.TheVariants as status
-use Rattle.lt_commands.specs.Words.{Line, Replay, Print}
+use Rattle.lt_commands.specs.Words.{Line, Replay, Check, Print}
+use Rattle.lt_commands.specs.Loading.{LoadsAs}
 use Rattle.lt_commands.specs.Reading.{AsksFor}
-use Rattle.lt_commands.specs.Offline.{HasSomeRoot}
 
--- the configuration was fetched, and it assigns a root; then the script was asked for, with this answer
-pub record AsksBoth (conf script : List ℕ) (answer : FetchKind) (held : Library) (before after : List Fetch) : Type 0 where
-  pub accepted : HasSomeRoot (held conf)
-  pub asked : AsksFor script answer (record { name = conf; answer = fetch.Text } ∷ before) after
+-- a configuration was loaded, and no other text was asked for
+abbrev pub AsksConf : List ℕ → Library → List Fetch → List Fetch → Type 0
+AsksConf conf library before after = (loaded : Loaded) × LoadsAs (Ok loaded) conf library before after
+
+-- the configuration was loaded; then the script was asked for, with this answer
+pub record AsksBoth (conf script : List ℕ) (answer : FetchKind) (library : Library) (before after : List Fetch) : Type 0 where
+  pub mid : List Fetch
+  pub accepted : AsksConf conf library before mid
+  pub asked : AsksFor script answer mid after
 
 -- what a replay asks for, by its status: a text that cannot be read is the last that was asked for, and its call failed
 abbrev pub ReplayAsks : Status → List ℕ → List ℕ → Library → List Fetch → List Fetch → Type 0
-ReplayAsks (status.Missing number) conf script held before after =
-    ((number ≡ 1) × AsksFor conf fetch.Missing before after) ⊎ ((number ≡ 2) × AsksBoth conf script fetch.Missing held before after)
-ReplayAsks (status.Conf fault) conf script held before after = AsksFor conf fetch.Text before after ⊎ AsksFor conf fetch.Long before after
-ReplayAsks (status.Script line) conf script held before after =
-    AsksBoth conf script fetch.Text held before after ⊎ AsksBoth conf script fetch.Long held before after
-ReplayAsks status.TextFault conf script held before after = AsksFor conf fetch.Failed before after ⊎ AsksBoth conf script fetch.Failed held before after
-ReplayAsks status.Done conf script held before after = AsksBoth conf script fetch.Text held before after
-ReplayAsks status.SinkFault conf script held before after = AsksBoth conf script fetch.Text held before after
-ReplayAsks status.NoMemory conf script held before after =
-    (after ≡ before) ⊎ (AsksFor conf fetch.Text before after ⊎ AsksBoth conf script fetch.Text held before after)
-ReplayAsks status.Usage conf script held before after = ⊥
+ReplayAsks (status.Missing number) conf script library before after =
+    LoadsAs (Err (status.Missing number)) conf library before after ⊎ ((number ≡ 2) × AsksBoth conf script fetch.Missing library before after)
+ReplayAsks (status.Conf fault) conf script library before after = LoadsAs (Err (status.Conf fault)) conf library before after
+ReplayAsks (status.Script line) conf script library before after =
+    AsksBoth conf script fetch.Text library before after ⊎ AsksBoth conf script fetch.Long library before after
+ReplayAsks status.TextFault conf script library before after =
+    LoadsAs (Err status.TextFault) conf library before after ⊎ AsksBoth conf script fetch.Failed library before after
+ReplayAsks status.Done conf script library before after = AsksBoth conf script fetch.Text library before after
+ReplayAsks status.SinkFault conf script library before after = AsksBoth conf script fetch.Text library before after
+ReplayAsks status.NoMemory conf script library before after =
+    LoadsAs (Err status.NoMemory) conf library before after ⊎ (AsksConf conf library before after ⊎ AsksBoth conf script fetch.Text library before after)
+ReplayAsks status.Usage conf script library before after = ⊥
+
+-- what a check asks for: the texts of the configuration
+abbrev pub CheckAsks : Status → List ℕ → Library → List Fetch → List Fetch → Type 0
+CheckAsks (status.Missing number) conf library before after = LoadsAs (Err (status.Missing number)) conf library before after
+CheckAsks (status.Conf fault) conf library before after = LoadsAs (Err (status.Conf fault)) conf library before after
+CheckAsks status.TextFault conf library before after = LoadsAs (Err status.TextFault) conf library before after
+CheckAsks status.Done conf library before after = AsksConf conf library before after
+CheckAsks status.SinkFault conf library before after = AsksConf conf library before after
+CheckAsks status.NoMemory conf library before after = LoadsAs (Err status.NoMemory) conf library before after ⊎ AsksConf conf library before after
+CheckAsks other conf library before after = ⊥
 
 -- what a print asks for: the configuration alone
 abbrev pub PrintAsks : Status → List ℕ → List Fetch → List Fetch → Type 0
@@ -40,5 +57,6 @@ PrintAsks status.NoMemory conf before after = (after ≡ before) ⊎ AsksFor con
 PrintAsks other conf before after = ⊥
 
 abbrev pub LineAsks : Status → Line → Library → List Fetch → List Fetch → Type 0
-LineAsks status (Replay conf script) held before after = ReplayAsks status conf script held before after
-LineAsks status (Print conf) held before after = PrintAsks status conf before after
+LineAsks status (Replay conf script) library before after = ReplayAsks status conf script library before after
+LineAsks status (Check conf) library before after = CheckAsks status conf library before after
+LineAsks status (Print conf) library before after = PrintAsks status conf before after

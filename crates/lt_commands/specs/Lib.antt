@@ -2,11 +2,12 @@ pub mod Calls
 pub mod Endings
 pub mod Exits
 pub mod Fetching
+pub mod Loading
 pub mod Offline
 pub mod Printing
 pub mod Reading
-pub mod Root
 pub mod Runs
 pub mod Serving
+pub mod Warned
+pub mod Warnings
 pub mod Words
-pub mod Rooted

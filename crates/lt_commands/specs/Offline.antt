@@ -6,11 +6,16 @@ use Rattle.lt_world.specs.declared.net.NextKind.{NextKind}
 use Rattle.lt_world.specs.declared.net.NextKind.TheVariants as kind
 use Rattle.lt_script.specs.declared.script.Script.{Script}
 use Rattle.conf_parse.specs.declared.tree.Tree.{Tree}
+use Rattle.conf_parse.specs.Print.{printed}
+use Rattle.conf_eval.specs.declared.fault.ConfKind.TheVariants as cause
+use Rattle.conf_eval.specs.declared.fault.Loaded.{Loaded}
 use Rattle.lt_commands.specs.declared.status.Status.{Status}
 use Rattle.lt_commands.specs.declared.status.Status.TheVariants as status
-use Rattle.lt_commands.specs.Words.{Line, Replay, Print, SpellsLine}
-use Rattle.lt_commands.specs.Reading.{wrong_conf, HasRoot, HasNoRoot, HasScript, IsWrongAt}
+use Rattle.lt_commands.specs.Words.{Line, Replay, Check, Print, SpellsLine}
+use Rattle.lt_commands.specs.Loading.{HasConf, HasSomeConf, HasFault}
+use Rattle.lt_commands.specs.Reading.{HasScript, IsWrongAt}
 use Rattle.lt_commands.specs.Printing.{HasTree, IsFault}
+use Rattle.lt_commands.specs.Warnings.{checked}
 
 -- Usage comes exactly where the words are no line of the call
 abbrev pub WordsSay : Status → List (List ℕ) → Type 0
@@ -22,34 +27,49 @@ abbrev pub IsOfLine : Status → Type 0
 IsOfLine status.Usage = ⊥
 IsOfLine other = Unit {0}
 
--- the text that is held assigns a root
-abbrev pub HasSomeRoot : Option (List ℕ) → Type 0
-HasSomeRoot held = (root : List ℕ) × HasRoot held root
+-- the text that is held spells a script, or a tree
+abbrev pub HasSomeScript : Option (List ℕ) → Type 0
+HasSomeScript held = (said : Script) × HasScript held said
 
--- a replay's status by the texts under the names of configuration and script: the first refusal, in this order
-abbrev pub ReplaySays : Status → Option (List ℕ) → Option (List ℕ) → Type 0
-ReplaySays (status.Missing number) conf script = ((number ≡ 1) × (conf ≡ None)) ⊎ ((number ≡ 2) × HasSomeRoot conf × (script ≡ None))
-ReplaySays (status.Conf fault) conf script = (fault ≡ wrong_conf) × ((text : List ℕ) × (conf ≡ Some text) × HasNoRoot text)
-ReplaySays (status.Script line) conf script = HasSomeRoot conf × ((text : List ℕ) × (script ≡ Some text) × IsWrongAt text line)
-ReplaySays status.Done conf script = HasSomeRoot conf × ((said : Script) × HasScript script said)
-ReplaySays status.SinkFault conf script = HasSomeRoot conf × ((said : Script) × HasScript script said)
-ReplaySays status.TextFault conf script = Unit {0}
-ReplaySays status.NoMemory conf script = Unit {0}
-ReplaySays status.Usage conf script = ⊥
+abbrev pub HasSomeTree : Option (List ℕ) → Type 0
+HasSomeTree held = (tree : Tree) × HasTree held tree
+
+-- a replay's status by the texts: the first refusal, in this order
+abbrev pub ReplaySays : Status → Library → List ℕ → List ℕ → Type 0
+ReplaySays (status.Missing number) library conf script =
+    ((number ≡ 1) × (library conf ≡ None)) ⊎ ((number ≡ 2) × HasSomeConf library conf × (library script ≡ None))
+ReplaySays (status.Conf fault) library conf script = HasFault library conf fault
+ReplaySays (status.Script line) library conf script = HasSomeConf library conf × ((text : List ℕ) × (library script ≡ Some text) × IsWrongAt text line)
+ReplaySays status.Done library conf script = HasSomeConf library conf × HasSomeScript (library script)
+ReplaySays status.SinkFault library conf script = HasSomeConf library conf × HasSomeScript (library script)
+ReplaySays status.TextFault library conf script = Unit {0}
+ReplaySays status.NoMemory library conf script = Unit {0}
+ReplaySays status.Usage library conf script = ⊥
+
+-- a check's status by the texts: it is done where they spell a configuration
+abbrev pub CheckSays : Status → Library → List ℕ → Type 0
+CheckSays (status.Missing number) library conf = (number ≡ 1) × (library conf ≡ None)
+CheckSays (status.Conf fault) library conf = HasFault library conf fault
+CheckSays status.Done library conf = HasSomeConf library conf
+CheckSays status.SinkFault library conf = HasSomeConf library conf
+CheckSays status.TextFault library conf = Unit {0}
+CheckSays status.NoMemory library conf = Unit {0}
+CheckSays other library conf = ⊥
 
 -- the status of a print by the text under the configuration's name
 abbrev pub PrintSays : Status → Option (List ℕ) → Type 0
 PrintSays (status.Missing number) conf = (number ≡ 1) × (conf ≡ None)
 PrintSays (status.Conf fault) conf = (fault.file ≡ 0) × ((text : List ℕ) × (conf ≡ Some text) × IsFault fault.kind fault.line text)
-PrintSays status.Done conf = (tree : Tree) × HasTree conf tree
-PrintSays status.SinkFault conf = (tree : Tree) × HasTree conf tree
+PrintSays status.Done conf = HasSomeTree conf
+PrintSays status.SinkFault conf = HasSomeTree conf
 PrintSays status.TextFault conf = Unit {0}
 PrintSays status.NoMemory conf = Unit {0}
 PrintSays other conf = ⊥
 
 abbrev pub LineSays : Status → Line → Library → Type 0
-LineSays status (Replay conf script) held = ReplaySays status (held conf) (held script)
-LineSays status (Print conf) held = PrintSays status (held conf)
+LineSays status (Replay conf script) library = ReplaySays status library conf script
+LineSays status (Check conf) library = CheckSays status library conf
+LineSays status (Print conf) library = PrintSays status (library conf)
 
 -- a call that ends so never asked its net and its files for anything
 abbrev pub IsRefusal : Status → Type 0
@@ -60,13 +80,34 @@ IsRefusal status.TextFault = Unit {0}
 IsRefusal (status.Missing number) = Unit {0}
 IsRefusal other = ⊥
 
--- where words and texts are good, a call is done, unless something fails or memory is wanted
+-- where the texts are good, a call is done, unless something fails or memory is wanted
 abbrev pub IsComplete : Status → Type 0
 IsComplete status.Done = Unit {0}
 IsComplete status.NoMemory = Unit {0}
 IsComplete status.TextFault = Unit {0}
 IsComplete status.SinkFault = Unit {0}
 IsComplete other = ⊥
+
+-- the same where texts are included: such a text may be the one that cannot be read
+abbrev pub IsCompleteLoad : Status → Type 0
+IsCompleteLoad (status.Conf fault) = fault.kind ≡ cause.TextFault
+IsCompleteLoad other = IsComplete other
+
+abbrev pub Completes : Status → Line → Library → Type 0
+Completes status (Replay conf script) library = HasSomeConf library conf → HasSomeScript (library script) → IsCompleteLoad status
+Completes status (Check conf) library = HasSomeConf library conf → IsCompleteLoad status
+Completes status (Print conf) library = HasSomeTree (library conf) → IsComplete status
+
+-- a line that asks neither the net nor the files for anything
+abbrev pub IsQuiet : Line → Type 0
+IsQuiet (Replay conf script) = ⊥
+IsQuiet other = Unit {0}
+
+-- what a line puts out of its texts
+abbrev pub PutsOut : Line → Library → List ℕ → Type 0
+PutsOut (Replay conf script) library output = ⊥
+PutsOut (Check conf) library output = (loaded : Loaded) × HasConf library conf loaded × (output ≡ checked loaded)
+PutsOut (Print conf) library output = (tree : Tree) × HasTree (library conf) tree × (output ≡ printed tree)
 
 -- the sink gets the whole output at Done, the front of it where the sink fails, and nothing at any other status
 abbrev pub SinkSays : Status → List ℕ → List ℕ → List ℕ → Type 0
@@ -77,6 +118,7 @@ SinkSays other output before after = after ≡ before
 -- a fault is answered only where the count of what failed rose
 abbrev pub FaultsSay : Status → ℕ → ℕ → ℕ → ℕ → Type 0
 FaultsSay status.TextFault texts_before texts_after sink_before sink_after = Rose texts_before texts_after
+FaultsSay (status.Conf fault) texts_before texts_after sink_before sink_after = fault.kind ≡ cause.TextFault → Rose texts_before texts_after
 FaultsSay status.SinkFault texts_before texts_after sink_before sink_after = Rose sink_before sink_after
 FaultsSay other texts_before texts_after sink_before sink_after = Unit {0}
 

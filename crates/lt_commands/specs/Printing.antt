@@ -10,9 +10,9 @@ use Rattle.conf_parse.specs.declared.parser.TheConstants.{MAX_NESTING}
 use Rattle.conf_parse.specs.declared.error.ParseError.TheVariants as parsed
 use Rattle.conf_parse.specs.Grammar.{Spells}
 use Rattle.conf_parse.specs.Answers as parser
-use Rattle.lt_commands.specs.declared.reading.TheConstants.{MAX_CONF}
-use Rattle.lt_commands.specs.declared.status.ConfKind.{ConfKind}
-use Rattle.lt_commands.specs.declared.status.ConfKind.TheVariants as kind
+use Rattle.conf_eval.specs.declared.limits.TheConstants.{MAX_TEXTS}
+use Rattle.conf_eval.specs.declared.fault.ConfKind.{ConfKind}
+use Rattle.conf_eval.specs.declared.fault.ConfKind.TheVariants as kind
 use Rattle.lt_commands.specs.declared.status.Status.{Status}
 use Rattle.lt_commands.specs.declared.status.Status.TheVariants as status
 
@@ -26,15 +26,15 @@ SpellsTree text tree = (tokens : List Token) × HasTokens text tokens × Spells 
 
 -- the text that is held spells this tree, and is short enough
 abbrev pub HasTree : Option (List ℕ) → Tree → Type 0
-HasTree held tree = (text : List ℕ) × (held ≡ Some text) × (length text ≤ MAX_CONF) × SpellsTree text tree
+HasTree held tree = (text : List ℕ) × (held ≡ Some text) × (length text ≤ MAX_TEXTS) × SpellsTree text tree
 
 -- the first refusal of a text: by its length, by its bytes and tokens, or by its grammar
 abbrev pub IsFault : ConfKind → ℕ → List ℕ → Type 0
-IsFault kind.TooLong line text = (line ≡ 1) × (MAX_CONF < length text)
-IsFault kind.NotUtf8 line text = (length text ≤ MAX_CONF) × lexer.Refused text (lexed.NotUtf8 line)
-IsFault kind.Grammar line text = (length text ≤ MAX_CONF)
+IsFault kind.TooLong line text = (line ≡ 1) × (MAX_TEXTS < length text)
+IsFault kind.NotUtf8 line text = (length text ≤ MAX_TEXTS) × lexer.Refused text (lexed.NotUtf8 line)
+IsFault kind.Grammar line text = (length text ≤ MAX_TEXTS)
     × (lexer.Refused text (lexed.Grammar line) ⊎ ((tokens : List Token) × HasTokens text tokens × parser.Refused MAX_NESTING tokens (parsed.Grammar line)))
-IsFault kind.Deep line text = (length text ≤ MAX_CONF) × ((tokens : List Token) × HasTokens text tokens × parser.Refused MAX_NESTING tokens (parsed.Deep line))
+IsFault kind.Deep line text = (length text ≤ MAX_TEXTS) × ((tokens : List Token) × HasTokens text tokens × parser.Refused MAX_NESTING tokens (parsed.Deep line))
 IsFault other line text = ⊥
 
 -- the tree that the text under the configuration's name spells, or why there is none

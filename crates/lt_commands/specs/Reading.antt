@@ -7,40 +7,18 @@ use Rattle.lt_world.specs.declared.texts.FetchKind.TheVariants as fetch
 use Rattle.lt_script.specs.declared.script.Script.{Script}
 use Rattle.lt_script.specs.declared.limits.TheConstants.{SCRIPT_LIMIT}
 use Rattle.lt_script.specs.Texts.{Spells, IsBadLine}
-use Rattle.lt_commands.specs.declared.status.ConfFault.{ConfFault}
-use Rattle.lt_commands.specs.declared.status.ConfKind.TheVariants as kind
+use Rattle.conf_eval.specs.declared.fault.ConfKind.TheVariants as kind
 use Rattle.lt_commands.specs.declared.status.Status.{Status}
 use Rattle.lt_commands.specs.declared.status.Status.TheVariants as status
-use Rattle.lt_commands.specs.Root.{AssignsRoot}
-
--- the first fault of a configuration that is no assignment of a root
-abbrev pub wrong_conf : ConfFault
-wrong_conf = record { kind = kind.Grammar; file = 0; line = 1 }
-
--- the text assigns no root
-abbrev pub HasNoRoot : List ℕ → Type 0
-HasNoRoot text = (root : List ℕ) → ¬ AssignsRoot text root
-
--- the text that is held assigns this root
-abbrev pub HasRoot : Option (List ℕ) → List ℕ → Type 0
-HasRoot held root = (text : List ℕ) × (held ≡ Some text) × AssignsRoot text root
 
 -- the text that is held spells this script, and is short enough
 abbrev pub HasScript : Option (List ℕ) → Script → Type 0
 HasScript held script = (text : List ℕ) × (held ≡ Some text) × (length text ≤ SCRIPT_LIMIT) × Spells text script
 
--- the root that the text under the configuration's name assigns, or why there is none
-abbrev pub ConfSays : Result (List ℕ) Status → Option (List ℕ) → Type 0
-ConfSays (Ok root) held = HasRoot held root
-ConfSays (Err (status.Missing number)) held = (number ≡ 1) × (held ≡ None)
-ConfSays (Err (status.Conf fault)) held = (fault ≡ wrong_conf) × ((text : List ℕ) × (held ≡ Some text) × HasNoRoot text)
-ConfSays (Err status.TextFault) held = (text : List ℕ) × (held ≡ Some text)
-ConfSays (Err status.NoMemory) held = Unit {0}
-ConfSays (Err other) held = ⊥
-
 -- what reading a text may answer: a fault only where the count of the texts rose
 abbrev pub ReadCause : {A : Type 0} → Result A Status → ℕ → ℕ → Type 0
 ReadCause (Err status.TextFault) before after = Rose before after
+ReadCause (Err (status.Conf fault)) before after = fault.kind ≡ kind.TextFault → Rose before after
 ReadCause (Err status.Done) before after = ⊥
 ReadCause (Err status.Usage) before after = ⊥
 ReadCause (Err status.SinkFault) before after = ⊥

@@ -1,4 +1,4 @@
-//! The work that needs no sockets: a replay, and the printed configuration.
+//! The work that needs no sockets: a replay, the check of a configuration, and its printed form.
 ghost use Rattle.std.specs.Prelude.{◌≡◌, ◌≤◌, ◌++◌, ℕ, List, [], None, map, string_bytes};
 ghost use Rattle.lt_world.specs.Disk.{Disk};
 ghost use Rattle.lt_world.specs.Memory.{no_files, tree_of};
@@ -13,24 +13,26 @@ ghost use Rattle.lt_script.specs.declared.script.Script.{Script};
 ghost use Rattle.lt_script.specs.declared.script.Step.{Step};
 ghost use Rattle.conf_parse.specs.declared.tree.Tree.{Tree};
 ghost use Rattle.conf_parse.specs.Print.{printed};
-ghost use Rattle.server_model.specs.Site.{site_at};
 ghost use Rattle.server_model.specs.Files.{IsTable, Backs};
 ghost use Rattle.server_model.specs.Serves.{Serves};
 ghost use Rattle.server_core.specs.Within.{serving_at};
 ghost use Rattle.lt_commands.specs.Runs.{FinishFits, Served, asked_of};
 ghost use Rattle.lt_commands.specs.Endings.{AllEndCalmly};
-ghost use Rattle.lt_commands.specs.Words.{Line, SpellsLine, Replay as replay_line, Print as print_line};
-ghost use Rattle.lt_commands.specs.Reading.{HasRoot, HasScript};
+ghost use Rattle.lt_commands.specs.Words.{Line, SpellsLine, Replay as replay_line};
+ghost use Rattle.lt_commands.specs.Loading.{HasConf, HasSomeConf};
 ghost use Rattle.lt_commands.specs.Printing.{HasTree};
-ghost use Rattle.lt_commands.specs.Offline.{WordsSay, IsOfLine, IsRefusal, IsComplete, LineSays, ReplaySays, PrintSays, SinkSays, FaultsSay, MemorySays, PlaySays};
-ghost use Rattle.lt_commands.specs.Fetching.{LineAsks, ReplayAsks, PrintAsks};
-ghost use Rattle.lt_commands.specs.Serving.{ServesBy, ServesSome};
+ghost use Rattle.lt_commands.specs.Offline.{CheckSays, Completes, FaultsSay, HasSomeScript, HasSomeTree, IsComplete, IsCompleteLoad, IsOfLine, IsQuiet, IsRefusal, LineSays, MemorySays, PlaySays, PrintSays, PutsOut, ReplaySays, SinkSays, WordsSay};
+ghost use Rattle.lt_commands.specs.Fetching.{CheckAsks, LineAsks, PrintAsks, ReplayAsks};
+ghost use Rattle.lt_commands.specs.Serving.{ServesSome, ServesSpelled};
+ghost use Rattle.lt_commands.specs.Warnings.{checked};
+ghost use Rattle.conf_eval.specs.declared.fault.Loaded.{Loaded};
 
+use crate::loading::load_conf;
 use crate::printing::read_tree;
-use crate::reading::{read_conf, read_script};
-use crate::rooted::rooted;
+use crate::reading::read_script;
 use crate::run::{Finish, run};
 use crate::status::Status;
+use crate::warnings::load_warned;
 use crate::words::{Call, read_words};
 use conf_parse::print;
 use lt_world::{MemFiles, Sink, Texts};
@@ -40,8 +42,9 @@ use std::alloc::Global;
 
 /// Does what the words ask for, if it needs no sockets, and answers how it ended.
 ///
-/// `replay -f CONF SCRIPT` serves the clients of a script and writes the report; `[-D] -p -f CONF` writes the printed
-/// form of a configuration. What cannot be done is the first of: the words, the configuration, the script, the output.
+/// `replay -f CONF SCRIPT` serves the clients of a script and writes the report; `[-D] -t -f CONF` checks a configuration
+/// and writes its warnings; `[-D] -p -f CONF` writes its printed form. What cannot be done is the first of: the words, the
+/// configuration, the script, the output.
 pub fn offline<X: Texts, S: Sink>(
     alloc: Global,
     words: &[String],
@@ -60,29 +63,26 @@ pub fn offline<X: Texts, S: Sink>(
     ensures memory { MemorySays result net.new.last }
 
     // With good words and texts the call is done, unless something fails or memory is wanted.
-    ensures complete { X.tells → (conf script root : List ℕ) (said : Script) → SpellsLine (map string_bytes words.now) (replay_line conf script)
-        → HasRoot (X.texts texts.old conf) root → HasScript (X.texts texts.old script) said → IsComplete result }
-    ensures complete_print { X.tells → (conf : List ℕ) (tree : Tree) → SpellsLine (map string_bytes words.now) (print_line conf)
-        → HasTree (X.texts texts.old conf) tree → IsComplete result }
+    ensures complete { X.tells → (line : Line) → SpellsLine (map string_bytes words.now) line → Completes result line (X.texts texts.old) }
 
     // Whatever the texts tell, the clients sent and the sockets took: there is a configuration for which each client took
     // a prefix of its own stream, and all of it where it was closed clean; and what was due for each event followed it
     // in the same turn. Where the texts tell, it is the one that they spell.
     ensures serves { ServesSome result (asked_of files.new) net.new.game.trace }
-    ensures spelled { X.tells → (conf script root : List ℕ) (said : Script) → SpellsLine (map string_bytes words.now) (replay_line conf script)
-        → HasRoot (X.texts texts.old conf) root → HasScript (X.texts texts.old script) said
-        → ServesBy root said result (asked_of files.new) net.new.game.trace }
+    ensures spelled { X.tells → (conf script : List ℕ) → SpellsLine (map string_bytes words.now) (replay_line conf script)
+        → ServesSpelled conf script (X.texts texts.old) result (asked_of files.new) net.new.game.trace }
 
-    // A call that is refused, and one that prints, asked neither the net nor the files for anything.
+    // A call that is refused, and one that checks or prints, asked neither the net nor the files for anything.
     ensures refused { IsRefusal result → (net.new ≡ net.old) × (files.new ≡ files.old) }
-    ensures unasked { (conf : List ℕ) → SpellsLine (map string_bytes words.now) (print_line conf) → (net.new ≡ net.old) × (files.new ≡ files.old) }
+    ensures unasked { (line : Line) → SpellsLine (map string_bytes words.now) line → IsQuiet line → (net.new ≡ net.old) × (files.new ≡ files.old) }
 
     // A replay reports what the net told.
     ensures report { S.tells → (conf script : List ℕ) → SpellsLine (map string_bytes words.now) (replay_line conf script)
         → SinkSays result (report_of net.new.game.trace) (S.bytes sink.old) (S.bytes sink.new) }
 
-    ensures prints { S.tells → X.tells → (conf : List ℕ) (tree : Tree) → SpellsLine (map string_bytes words.now) (print_line conf)
-        → HasTree (X.texts texts.old conf) tree → SinkSays result (printed tree) (S.bytes sink.old) (S.bytes sink.new) }
+    // A check puts out the warnings, a print the printed form.
+    ensures prints { S.tells → X.tells → (line : Line) (output : List ℕ) → SpellsLine (map string_bytes words.now) line
+        → PutsOut line (X.texts texts.old) output → SinkSays result output (S.bytes sink.old) (S.bytes sink.new) }
 
     // Words that are no line change nothing.
     ensures usage { result ≡ Status.Usage → (texts.new ≡ texts.old) × (net.new ≡ net.old) × (files.new ≡ files.old) × (sink.new ≡ sink.old) }
@@ -92,6 +92,7 @@ pub fn offline<X: Texts, S: Sink>(
         Some(Call::Replay { conf, script }) => {
             replay(alloc, conf, script, texts, net, files, sink)
         }
+        Some(Call::Check { conf }) => check_conf(alloc, conf, texts, sink),
         Some(Call::Print { conf }) => print_conf(alloc, conf, texts, sink),
     }
 }
@@ -108,19 +109,18 @@ fn replay<X: Texts, S: Sink>(
     requires net { net.old ≡ unplayed [] }
     requires files { files.old ≡ no_files }
     ensures line { IsOfLine result }
-    ensures texts { X.tells → ReplaySays result (X.texts texts.old conf.now) (X.texts texts.old script.now) }
+    ensures texts { X.tells → ReplaySays result (X.texts texts.old) conf.now script.now }
     ensures asks { X.tells → ReplayAsks result conf.now script.now (X.texts texts.old) (X.calls texts.old) (X.calls texts.new) }
     ensures faults { FaultsSay result (X.faults texts.old) (X.faults texts.new) (S.faults sink.old) (S.faults sink.new) }
     ensures memory { MemorySays result net.new.last }
-    ensures complete { X.tells → (root : List ℕ) (said : Script) → HasRoot (X.texts texts.old conf.now) root → HasScript (X.texts texts.old script.now) said → IsComplete result }
+    ensures complete { X.tells → HasSomeConf (X.texts texts.old) conf.now → HasSomeScript (X.texts texts.old script.now) → IsCompleteLoad result }
     ensures serves { ServesSome result (asked_of files.new) net.new.game.trace }
-    ensures spelled { X.tells → (root : List ℕ) (said : Script) → HasRoot (X.texts texts.old conf.now) root → HasScript (X.texts texts.old script.now) said
-        → ServesBy root said result (asked_of files.new) net.new.game.trace }
+    ensures spelled { X.tells → ServesSpelled conf.now script.now (X.texts texts.old) result (asked_of files.new) net.new.game.trace }
     ensures refused { IsRefusal result → (net.new ≡ net.old) × (files.new ≡ files.old) }
     ensures report { S.tells → SinkSays result (report_of net.new.game.trace) (S.bytes sink.old) (S.bytes sink.new) }
 {
-    let root = match read_conf(alloc, texts, conf) {
-        Ok(root) => root,
+    let loaded = match load_conf(alloc, conf, texts) {
+        Ok(loaded) => loaded,
         Err(status) => return status,
     };
     let script = match read_script(alloc, texts, script) {
@@ -130,10 +130,7 @@ fn replay<X: Texts, S: Sink>(
     if net.load(&script, files).is_err() {
         return Status::NoMemory;
     }
-    let Ok(config) = rooted(alloc, root) else {
-        return Status::NoMemory;
-    };
-    match Server::new(alloc, &config) {
+    match Server::new(alloc, &loaded.config) {
         Ok(server) => play(server, net, files, sink),
         Err(_) => Status::NoMemory,
     }
@@ -185,12 +182,29 @@ fn serve(server: Server<'_>, net: &mut ScriptNet, files: &mut MemFiles) -> Finis
     finish
 }
 
+fn check_conf<X: Texts, S: Sink>(alloc: Global, conf: &str, texts: &mut X, sink: &mut S) -> Status
+    ensures line { IsOfLine result }
+    ensures texts { X.tells → CheckSays result (X.texts texts.old) conf.now }
+    ensures asks { X.tells → CheckAsks result conf.now (X.texts texts.old) (X.calls texts.old) (X.calls texts.new) }
+    ensures faults { FaultsSay result (X.faults texts.old) (X.faults texts.new) (S.faults sink.old) (S.faults sink.new) }
+    ensures complete { X.tells → HasSomeConf (X.texts texts.old) conf.now → IsCompleteLoad result }
+    ensures prints { S.tells → X.tells → (loaded : Loaded) → HasConf (X.texts texts.old) conf.now loaded → SinkSays result (checked loaded) (S.bytes sink.old) (S.bytes sink.new) }
+{
+    match load_warned(alloc, conf, texts, sink) {
+        Ok(_) => match write_all(sink, b"Syntax OK\n") {
+            Ok(()) => Status::Done,
+            Err(_) => Status::SinkFault,
+        },
+        Err(status) => status,
+    }
+}
+
 fn print_conf<X: Texts, S: Sink>(alloc: Global, conf: &str, texts: &mut X, sink: &mut S) -> Status
     ensures line { IsOfLine result }
     ensures texts { X.tells → PrintSays result (X.texts texts.old conf.now) }
     ensures asks { X.tells → PrintAsks result conf.now (X.calls texts.old) (X.calls texts.new) }
     ensures faults { FaultsSay result (X.faults texts.old) (X.faults texts.new) (S.faults sink.old) (S.faults sink.new) }
-    ensures complete { X.tells → (tree : Tree) → HasTree (X.texts texts.old conf.now) tree → IsComplete result }
+    ensures complete { X.tells → HasSomeTree (X.texts texts.old conf.now) → IsComplete result }
     ensures prints { S.tells → X.tells → (tree : Tree) → HasTree (X.texts texts.old conf.now) tree → SinkSays result (printed tree) (S.bytes sink.old) (S.bytes sink.new) }
 {
     let tree = match read_tree(alloc, texts, conf) {

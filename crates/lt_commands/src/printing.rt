@@ -4,8 +4,9 @@ ghost use Rattle.lt_commands.specs.Printing.{TextSays, TreeSays, SpellsTree, Has
 ghost use Rattle.lt_commands.specs.Reading.{ReadCause, Asks, IsOnly};
 ghost use Rattle.conf_parse.specs.declared.tree.Tree.{Tree};
 
-use crate::reading::{CONF, MAX_CONF};
-use crate::status::{ConfFault, ConfKind, Status};
+use crate::loading::CONF;
+use crate::status::Status;
+use conf_eval::{ConfFault, ConfKind, MAX_TEXTS};
 use conf_lex::{LexError, lex};
 use conf_parse::{ParseError, Tree, parse};
 use lt_world::{Fetched, Texts};
@@ -20,7 +21,7 @@ pub fn read_tree<X: Texts>(alloc: Global, texts: &mut X, name: &str) -> Result<T
     ensures texts { X.tells → X.texts texts.new ≡ X.texts texts.old }
     ensures faults { X.faults texts.old ≤ X.faults texts.new }
 {
-    match texts.fetch(name.as_bytes(), MAX_CONF) {
+    match texts.fetch(name.as_bytes(), MAX_TEXTS) {
         Fetched::Text(text) => tree_of(alloc, text.bytes()),
         Fetched::Missing => Err(Status::Missing { text: CONF }),
         Fetched::Long => Err(fault(ConfKind::TooLong, 1)),
@@ -30,7 +31,7 @@ pub fn read_tree<X: Texts>(alloc: Global, texts: &mut X, name: &str) -> Result<T
 }
 
 fn tree_of(alloc: Global, text: &[u8]) -> Result<Tree, Status>
-    requires { length text.now ≤ MAX_CONF }
+    requires { length text.now ≤ MAX_TEXTS }
     ensures says { TextSays result text.now }
     ensures only { (tree : Tree) → SpellsTree text.now tree → IsOnly tree result }
 {

@@ -2,38 +2,8 @@
 ghost use Rattle.std.specs.Prelude.{◌≡◌, Some};
 ghost use Rattle.lt_commands.specs.Exits.{exit_number, kind_number, status_text};
 
+use conf_eval::{ConfFault, ConfKind};
 use std::fmt;
-
-/// What can be wrong with a configuration. Its number is the variant's.
-#[derive(Clone, Copy, Debug, PartialEq, Eq)]
-pub enum ConfKind {
-    NotUtf8 = 1,
-    Grammar,
-    UnknownField,
-    Duplicate,
-    UnknownVariable,
-    Mixed,
-    Overflow,
-    WrongType,
-    BadValue,
-    PatternRefused,
-    IncludeMissing,
-    TextFault,
-    IncludeDeep,
-    TooLong,
-    TooMany,
-    NoRoot,
-    Deep,
-}
-
-/// The first fault of a configuration, with its place: files are numbered from 0 in the order in
-/// which they are read, lines from 1.
-#[derive(Clone, Copy, Debug, PartialEq, Eq)]
-pub struct ConfFault {
-    pub kind: ConfKind,
-    pub file: u32,
-    pub line: u32,
-}
 
 /// How a call ended.
 #[derive(Clone, Copy, Debug, PartialEq, Eq)]
@@ -74,12 +44,11 @@ impl Status {
     }
 }
 
-impl ConfKind {
-    pub fn number(self) -> u8
-        ensures { result ≡ kind_number self }
-    {
-        self as u8
-    }
+// The number of a fault.
+fn kind_number(kind: ConfKind) -> u8
+    ensures { result ≡ kind_number kind }
+{
+    kind as u8
 }
 
 /// The text on standard error; it is empty at `Done`.
@@ -90,7 +59,7 @@ impl fmt::Display for Status {
         match self {
             Status::Done => Ok(()),
             Status::Conf(fault) => {
-                let kind = fault.kind.number();
+                let kind = kind_number(fault.kind);
                 let file = fault.file;
                 let line = fault.line;
                 write!(f, "lighttpd: C{kind} file {file} line {line}")

@@ -1,6 +1,6 @@
 //! The words of a call.
 ghost use Rattle.std.specs.Prelude.{◌≡◌, ℕ, List, IfSome, IfNone, map, string_bytes};
-ghost use Rattle.lt_commands.specs.Words.{Line, SpellsLine, SpellsPrint, Replay as replay};
+ghost use Rattle.lt_commands.specs.Words.{Line, SpellsLine, SpellsAlone, Replay as replay};
 ghost use Rattle.lt_commands.specs.Calls.{line_of};
 
 /// A line of the program, with the names of its texts.
@@ -8,6 +8,8 @@ ghost use Rattle.lt_commands.specs.Calls.{line_of};
 pub enum Call<'a> {
     /// `replay -f CONF SCRIPT`
     Replay { conf: &'a str, script: &'a str },
+    /// `[-D] -t -f CONF`
+    Check { conf: &'a str },
     /// `[-D] -p -f CONF`
     Print { conf: &'a str },
 }
@@ -20,8 +22,8 @@ pub fn read_words(words: &[String]) -> Option<Call<'_>>
     if let Some(call) = replay_of(words) {
         return Some(call);
     }
-    if let Some(conf) = print_of(words) {
-        return Some(Call::Print { conf });
+    if let Some(call) = alone(words) {
+        return Some(call);
     }
     let [foreground, rest @ ..] = words else {
         return None;
@@ -29,10 +31,7 @@ pub fn read_words(words: &[String]) -> Option<Call<'_>>
     if foreground.as_str() != "-D" {
         return None;
     }
-    let Some(conf) = print_of(rest) else {
-        return None;
-    };
-    Some(Call::Print { conf })
+    alone(rest)
 }
 
 fn replay_of(words: &[String]) -> Option<Call<'_>>
@@ -51,16 +50,23 @@ fn replay_of(words: &[String]) -> Option<Call<'_>>
     })
 }
 
-// The configuration of `-p -f CONF`.
-fn print_of(words: &[String]) -> Option<&str>
-    ensures found { IfSome result (λ conf. SpellsPrint (map string_bytes words.now) conf.now) }
-    ensures none { IfNone result ((conf : List ℕ) → ¬ SpellsPrint (map string_bytes words.now) conf) }
+// The line of `-t -f CONF` or `-p -f CONF`.
+fn alone(words: &[String]) -> Option<Call<'_>>
+    ensures found { IfSome result (λ call. SpellsAlone (map string_bytes words.now) (line_of call)) }
+    ensures none { IfNone result ((line : Line) → ¬ SpellsAlone (map string_bytes words.now) line) }
 {
-    let [print, flag, conf] = words else {
+    let [flag, option, conf] = words else {
         return None;
     };
-    if print.as_str() != "-p" || flag.as_str() != "-f" {
+    if option.as_str() != "-f" {
         return None;
     }
-    Some(conf.as_str())
+    let conf = conf.as_str();
+    if flag.as_str() == "-t" {
+        return Some(Call::Check { conf });
+    }
+    if flag.as_str() == "-p" {
+        return Some(Call::Print { conf });
+    }
+    None
 }

@@ -1,5 +1,6 @@
 //! The program's calls: the text of each status, and a write that fails in mid-report.
-use lt_commands::{ConfFault, ConfKind, Status, answer};
+use conf_eval::{ConfFault, ConfKind};
+use lt_commands::{Status, answer};
 use lt_world::{MemSink, MemTexts};
 use std::alloc::Global;
 use std::test::Fail;

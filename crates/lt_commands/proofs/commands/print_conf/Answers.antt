@@ -17,4 +17,4 @@ returns-clause-prints g c told texts_told tree held =
     (wrote.front, wrote.begins.0, sym text ∙ wrote.begins.1, wrote.got)
 
 pub returns-in-Err-clause-complete : goal.returns-in-Err-clause-complete
-returns-in-Err-clause-complete g c told tree held = is_complete tree c.in-Err.status (c.in-Err.ensures.only told tree held)
+returns-in-Err-clause-complete g c told has = is_complete has.0 c.in-Err.status (c.in-Err.ensures.only told has.0 has.1)

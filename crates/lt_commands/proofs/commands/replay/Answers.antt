@@ -1,171 +1,139 @@
-use Rattle.std.proofs.Common.{rules, ◌≡◌, ℕ, List, [], ap, sym, subst, inl, inr, ◌∙◌}
+use Rattle.std.proofs.Common.{rules, ◌≡◌, ℕ, List, ap, sym, subst, ◌∙◌}
 use Rattle.std.specs.Prelude.{Option, Err}
 use Rattle.lt_script.specs.declared.script.Script.{Script}
 use Rattle.script_net.specs.Playing.{unplayed, Playing}
 use Rattle.lt_world.specs.Memory.{Stored, tree_of, no_files}
 use Rattle.script_net.specs.Loads.{planted}
-use Rattle.lt_world.specs.declared.texts.FetchKind.TheVariants as fetch
+use Rattle.conf_eval.specs.declared.fault.Loaded.{Loaded}
 use Rattle.lt_commands.specs.declared.status.Status.TheVariants as status
 use Rattle.lt_commands.specs.Reading.{ScriptSays}
-use Rattle.lt_commands.proofs.OfflineLemmas.{play_says, is_complete}
+use Rattle.lt_commands.proofs.OfflineLemmas.{play_says, play_complete, conf_says, script_says, is_complete, is_complete_load, complete_load}
 use Rattle.lt_commands.specs.Serving.{ServesBy}
 use Rattle.lt_commands.proofs.RunLemmas.{served_as}
-use Rattle.lt_commands.proofs.ServingLemmas.{no_script, unrun, undone, served_for}
-use Rattle.lt_commands.proofs.AskingLemmas.{conf_asks, script_asks, both_asked, play_asks}
+use Rattle.lt_commands.proofs.ServingLemmas.{unrun, unserved_some, undone, served_for}
+use Rattle.lt_commands.proofs.AskingLemmas.{conf_asks, script_asks, loaded_asks, play_asks}
 use Rattle.lt_commands.specs.Runs.{asked_of}
 use Rattle.lt_commands.proofs.commands.replay.Goals as goal
-use Rattle.lt_commands.specs.Rooted.{site_below}
 use Rattle.server_model.specs.Site.{site_at}
 
 pub returns-in-Ok-new-clause-texts : goal.returns-in-Ok-new-clause-texts
 returns-in-Ok-new-clause-texts g c told =
-    let kept : g.X.Texts.texts c.read_conf.new.texts c.args.script.now ≡ g.X.Texts.texts c.args.texts.now c.args.script.now = ap (λ (texts : List ℕ → Option (List ℕ)). texts c.args.script.now) (c.read_conf.ensures.texts told) in
+    let kept : g.X.Texts.texts c.load_conf.new.texts c.args.script.now ≡ g.X.Texts.texts c.args.texts.now c.args.script.now = ap (λ (texts : List ℕ → Option (List ℕ)). texts c.args.script.now) (c.load_conf.ensures.texts told) in
     let said = c.in-Ok-read_script.ensures.says told in
-    play_says c.play.result _ _ _ c.play.ensures.ends (c.in-Ok.root, c.in-Ok.ensures.says told) (c.in-Ok-read_script.script, (said.0, sym kept ∙ said.1, said.2, said.3))
+    play_says c.play.result _ (g.X.Texts.texts c.args.texts.now) c.args.conf.now c.args.script.now c.play.ensures.ends (c.in-Ok.loaded, c.in-Ok.ensures.says told) (c.in-Ok-read_script.script, (said.0, sym kept ∙ said.1, said.2, said.3))
+
+pub returns-in-Err-clause-texts : goal.returns-in-Err-clause-texts
+returns-in-Err-clause-texts g c told = conf_says c.in-Err.status (g.X.Texts.texts c.args.texts.now) c.args.conf.now c.args.script.now (c.in-Err.ensures.says told)
+
+pub returns-in-Err-read_script-clause-texts : goal.returns-in-Err-read_script-clause-texts
+returns-in-Err-read_script-clause-texts g c told =
+    let kept : g.X.Texts.texts c.load_conf.new.texts c.args.script.now ≡ g.X.Texts.texts c.args.texts.now c.args.script.now = ap (λ (texts : List ℕ → Option (List ℕ)). texts c.args.script.now) (c.load_conf.ensures.texts told) in
+    script_says c.in-Err-read_script.status (g.X.Texts.texts c.args.texts.now) c.args.conf.now c.args.script.now (c.in-Ok.loaded, c.in-Ok.ensures.says told)
+    (subst (λ (held : Option (List ℕ)). ScriptSays (Err c.in-Err-read_script.status) held) kept (c.in-Err-read_script.ensures.says told))
 
 pub returns-in-Err-clause-complete : goal.returns-in-Err-clause-complete
-returns-in-Err-clause-complete g c told root said rooted held = is_complete root c.in-Err.status (c.in-Err.ensures.only told root rooted)
+returns-in-Err-clause-complete g c told has said = is_complete_load has.0 c.in-Err.status (c.in-Err.ensures.only told has.0 has.1)
 
 pub returns-in-Err-read_script-clause-complete : goal.returns-in-Err-read_script-clause-complete
-returns-in-Err-read_script-clause-complete g c told root said rooted held =
-    let kept : g.X.Texts.texts c.read_conf.new.texts c.args.script.now ≡ g.X.Texts.texts c.args.texts.now c.args.script.now = ap (λ (texts : List ℕ → Option (List ℕ)). texts c.args.script.now) (c.read_conf.ensures.texts told) in
-    is_complete said c.in-Err-read_script.status (c.in-Err-read_script.ensures.only told said (held.0, kept ∙ held.1, held.2, held.3))
+returns-in-Err-read_script-clause-complete g c told has said =
+    let kept : g.X.Texts.texts c.load_conf.new.texts c.args.script.now ≡ g.X.Texts.texts c.args.texts.now c.args.script.now = ap (λ (texts : List ℕ → Option (List ℕ)). texts c.args.script.now) (c.load_conf.ensures.texts told) in
+    let held = said.1 in
+    complete_load c.in-Err-read_script.status (is_complete said.0 c.in-Err-read_script.status (c.in-Err-read_script.ensures.only told said.0 (held.0, kept ∙ held.1, held.2, held.3)))
+
+pub returns-in-Ok-new-clause-complete : goal.returns-in-Ok-new-clause-complete
+returns-in-Ok-new-clause-complete g c told has said = play_complete c.play.result _ c.play.ensures.ends
 
 pub returns-in-Err-clause-serves : goal.returns-in-Err-clause-serves
-returns-in-Err-clause-serves g c = (
-  [],
-  (
-    no_script,
-    unrun [] no_script c.in-Err.status _ _ (ap asked_of c.requires.files) (ap (λ (p : Playing). p.game.trace) c.requires.net)
-        (λ done. absurd (undone (List ℕ) c.in-Err.status _ _ c.in-Err.ensures.cause done)),
-  ),
-)
+returns-in-Err-clause-serves g c = unserved_some c.in-Err.status _ _ (ap asked_of c.requires.files) (ap (λ (p : Playing). p.game.trace) c.requires.net)
 
 pub returns-in-Err-clause-spelled : goal.returns-in-Err-clause-spelled
-returns-in-Err-clause-spelled g c told root said rooted held =
-    unrun root said c.in-Err.status _ _ (ap asked_of c.requires.files) (ap (λ (p : Playing). p.game.trace) c.requires.net)
-    (λ done. absurd (undone (List ℕ) c.in-Err.status _ _ c.in-Err.ensures.cause done))
+returns-in-Err-clause-spelled g c told loaded said has held =
+    unrun loaded said c.in-Err.status _ _ (ap asked_of c.requires.files) (ap (λ (p : Playing). p.game.trace) c.requires.net)
+    (λ done. absurd (undone Loaded c.in-Err.status _ _ c.in-Err.ensures.cause done))
 
 pub returns-in-Err-read_script-clause-serves : goal.returns-in-Err-read_script-clause-serves
-returns-in-Err-read_script-clause-serves g c = (
-  [],
-  (
-    no_script,
-    unrun [] no_script c.in-Err-read_script.status _ _ (ap asked_of c.requires.files) (ap (λ (p : Playing). p.game.trace) c.requires.net)
-        (λ done. absurd (undone Script c.in-Err-read_script.status _ _ c.in-Err-read_script.ensures.cause done)),
-  ),
-)
+returns-in-Err-read_script-clause-serves g c = unserved_some c.in-Err-read_script.status _ _ (ap asked_of c.requires.files) (ap (λ (p : Playing). p.game.trace) c.requires.net)
 
 pub returns-in-Err-read_script-clause-spelled : goal.returns-in-Err-read_script-clause-spelled
-returns-in-Err-read_script-clause-spelled g c told root said rooted held =
-    unrun root said c.in-Err-read_script.status _ _ (ap asked_of c.requires.files) (ap (λ (p : Playing). p.game.trace) c.requires.net)
+returns-in-Err-read_script-clause-spelled g c told loaded said has held =
+    unrun loaded said c.in-Err-read_script.status _ _ (ap asked_of c.requires.files) (ap (λ (p : Playing). p.game.trace) c.requires.net)
     (λ done. absurd (undone Script c.in-Err-read_script.status _ _ c.in-Err-read_script.ensures.cause done))
 
 pub returns-then-is_err-clause-serves : goal.returns-then-is_err-clause-serves
 returns-then-is_err-clause-serves g c =
-    let kept : c.load.new.self ≡ c.args.net.now = search rules in (
-      [],
-      (
-        no_script,
-        unrun [] no_script status.NoMemory _ _ (ap asked_of c.load.ensures.rest ∙ ap asked_of c.requires.files) (ap (λ (p : Playing). p.game.trace) (kept ∙ c.requires.net))
-            (λ done. absurd (cc done)),
-      ),
-    )
+    let kept : c.load.new.self ≡ c.args.net.now = search rules in
+    unserved_some status.NoMemory _ _ (ap asked_of c.load.ensures.rest ∙ ap asked_of c.requires.files) (ap (λ (p : Playing). p.game.trace) (kept ∙ c.requires.net))
 
 pub returns-then-is_err-clause-spelled : goal.returns-then-is_err-clause-spelled
-returns-then-is_err-clause-spelled g c told root said rooted held =
+returns-then-is_err-clause-spelled g c told loaded said has held =
     let kept : c.load.new.self ≡ c.args.net.now = search rules in
-    unrun root said status.NoMemory _ _ (ap asked_of c.load.ensures.rest ∙ ap asked_of c.requires.files) (ap (λ (p : Playing). p.game.trace) (kept ∙ c.requires.net))
+    unrun loaded said status.NoMemory _ _ (ap asked_of c.load.ensures.rest ∙ ap asked_of c.requires.files) (ap (λ (p : Playing). p.game.trace) (kept ∙ c.requires.net))
     (λ done. absurd (cc done))
 
 pub returns-clause-serves : goal.returns-clause-serves
 returns-clause-serves g c =
-    let loaded : c.load.new.self ≡ unplayed c.in-Ok-read_script.script.steps = search rules in (
-      [],
-      (
-        no_script,
-        unrun [] no_script status.NoMemory _ _ (ap asked_of c.load.ensures.rest ∙ ap asked_of c.requires.files) (ap (λ (p : Playing). p.game.trace) loaded)
-            (λ done. absurd (cc done)),
-      ),
-    )
+    let loaded : c.load.new.self ≡ unplayed c.in-Ok-read_script.script.steps = search rules in
+    unserved_some status.NoMemory _ _ (ap asked_of c.load.ensures.rest ∙ ap asked_of c.requires.files) (ap (λ (p : Playing). p.game.trace) loaded)
 
 pub returns-clause-spelled : goal.returns-clause-spelled
-returns-clause-spelled g c told root said rooted held =
-    let loaded : c.load.new.self ≡ unplayed c.in-Ok-read_script.script.steps = search rules in
-    unrun root said status.NoMemory _ _ (ap asked_of c.load.ensures.rest ∙ ap asked_of c.requires.files) (ap (λ (p : Playing). p.game.trace) loaded)
-    (λ done. absurd (cc done))
-
-pub returns-in_default-clause-serves : goal.returns-in_default-clause-serves
-returns-in_default-clause-serves g c =
-    let loaded : c.load.new.self ≡ unplayed c.in-Ok-read_script.script.steps = search rules in (
-      [],
-      (
-        no_script,
-        unrun [] no_script status.NoMemory _ _ (ap asked_of c.load.ensures.rest ∙ ap asked_of c.requires.files) (ap (λ (p : Playing). p.game.trace) loaded)
-            (λ done. absurd (cc done)),
-      ),
-    )
-
-pub returns-in_default-clause-spelled : goal.returns-in_default-clause-spelled
-returns-in_default-clause-spelled g c told root said rooted held =
-    let loaded : c.load.new.self ≡ unplayed c.in-Ok-read_script.script.steps = search rules in
-    unrun root said status.NoMemory _ _ (ap asked_of c.load.ensures.rest ∙ ap asked_of c.requires.files) (ap (λ (p : Playing). p.game.trace) loaded)
+returns-clause-spelled g c told loaded said has held =
+    let begun : c.load.new.self ≡ unplayed c.in-Ok-read_script.script.steps = search rules in
+    unrun loaded said status.NoMemory _ _ (ap asked_of c.load.ensures.rest ∙ ap asked_of c.requires.files) (ap (λ (p : Playing). p.game.trace) begun)
     (λ done. absurd (cc done))
 
 pub returns-in-Ok-new-clause-serves : goal.returns-in-Ok-new-clause-serves
 returns-in-Ok-new-clause-serves g c =
-    let loaded : c.load.new.self ≡ unplayed c.in-Ok-read_script.script.steps = search rules in
+    let begun : c.load.new.self ≡ unplayed c.in-Ok-read_script.script.steps = search rules in
     let grown : tree_of c.load.new.files ≡ planted c.in-Ok-read_script.script.files (tree_of c.args.files.now) = search rules in
     let tree_is : tree_of c.load.new.files ≡ planted c.in-Ok-read_script.script.files (tree_of no_files) =
     grown ∙ ap (λ (s : Stored). planted c.in-Ok-read_script.script.files (tree_of s)) c.requires.files in
-    let served = served_as c.in-Ok-new.server.site (site_below c.in-Ok.root) (tree_of c.load.new.files) (planted c.in-Ok-read_script.script.files (tree_of no_files)) (asked_of c.play.new.files) c.play.new.net.game.trace
-    c.play.ensures.serves (c.in-Ok-new.ensures.site ∙ ap site_at c.in-Ok-rooted.ensures) tree_is in
-    let by : ServesBy c.in-Ok.root c.in-Ok-read_script.script c.play.result (asked_of c.play.new.files) c.play.new.net.game.trace = record {
-      served = served;
-      calm = c.play.ensures.calm c.in-Ok-read_script.script.steps loaded;
-      plays = c.play.ensures.plays c.in-Ok-read_script.script.steps loaded;
-    } in
-    (c.in-Ok.root, (c.in-Ok-read_script.script, by))
+    let served = served_as c.in-Ok-new.server.site (site_at c.in-Ok.loaded.config.blocks) (tree_of c.load.new.files) (planted c.in-Ok-read_script.script.files (tree_of no_files)) (asked_of c.play.new.files) c.play.new.net.game.trace
+    c.play.ensures.serves c.in-Ok-new.ensures.site tree_is in
+    record {
+      loaded = c.in-Ok.loaded;
+      in_form = c.in-Ok.ensures.in_form;
+      said = c.in-Ok-read_script.script;
+      serves = record {
+        served = served;
+        calm = c.play.ensures.calm c.in-Ok-read_script.script.steps begun;
+        plays = c.play.ensures.plays c.in-Ok-read_script.script.steps begun;
+      };
+    }
 
 pub returns-in-Ok-new-clause-spelled : goal.returns-in-Ok-new-clause-spelled
-returns-in-Ok-new-clause-spelled g c told root said rooted held =
-    let kept : g.X.Texts.texts c.read_conf.new.texts c.args.script.now ≡ g.X.Texts.texts c.args.texts.now c.args.script.now = ap (λ (texts : List ℕ → Option (List ℕ)). texts c.args.script.now) (c.read_conf.ensures.texts told) in
+returns-in-Ok-new-clause-spelled g c told loaded said has held =
+    let kept : g.X.Texts.texts c.load_conf.new.texts c.args.script.now ≡ g.X.Texts.texts c.args.texts.now c.args.script.now = ap (λ (texts : List ℕ → Option (List ℕ)). texts c.args.script.now) (c.load_conf.ensures.texts told) in
     let same : c.in-Ok-read_script.script ≡ said = c.in-Ok-read_script.ensures.only told said (held.0, kept ∙ held.1, held.2, held.3) in
-    let loaded : c.load.new.self ≡ unplayed c.in-Ok-read_script.script.steps = search rules in
+    let begun : c.load.new.self ≡ unplayed c.in-Ok-read_script.script.steps = search rules in
     let grown : tree_of c.load.new.files ≡ planted c.in-Ok-read_script.script.files (tree_of c.args.files.now) = search rules in
     let tree_is : tree_of c.load.new.files ≡ planted c.in-Ok-read_script.script.files (tree_of no_files) =
     grown ∙ ap (λ (s : Stored). planted c.in-Ok-read_script.script.files (tree_of s)) c.requires.files in
-    let served = served_as c.in-Ok-new.server.site (site_below c.in-Ok.root) (tree_of c.load.new.files) (planted c.in-Ok-read_script.script.files (tree_of no_files)) (asked_of c.play.new.files) c.play.new.net.game.trace
-    c.play.ensures.serves (c.in-Ok-new.ensures.site ∙ ap site_at c.in-Ok-rooted.ensures) tree_is in
-    let by : ServesBy c.in-Ok.root c.in-Ok-read_script.script c.play.result (asked_of c.play.new.files) c.play.new.net.game.trace = record {
+    let served = served_as c.in-Ok-new.server.site (site_at c.in-Ok.loaded.config.blocks) (tree_of c.load.new.files) (planted c.in-Ok-read_script.script.files (tree_of no_files)) (asked_of c.play.new.files) c.play.new.net.game.trace
+    c.play.ensures.serves c.in-Ok-new.ensures.site tree_is in
+    let by : ServesBy c.in-Ok.loaded c.in-Ok-read_script.script c.play.result (asked_of c.play.new.files) c.play.new.net.game.trace = record {
       served = served;
-      calm = c.play.ensures.calm c.in-Ok-read_script.script.steps loaded;
-      plays = c.play.ensures.plays c.in-Ok-read_script.script.steps loaded;
+      calm = c.play.ensures.calm c.in-Ok-read_script.script.steps begun;
+      plays = c.play.ensures.plays c.in-Ok-read_script.script.steps begun;
     } in
-    served_for c.in-Ok.root root c.in-Ok-read_script.script said c.play.result _ _ by (c.in-Ok.ensures.only told root rooted) same
+    served_for c.in-Ok.loaded loaded c.in-Ok-read_script.script said c.play.result _ _ by (c.in-Ok.ensures.only told loaded has) same
 
 pub returns-in-Err-clause-asks : goal.returns-in-Err-clause-asks
-returns-in-Err-clause-asks g c told = conf_asks c.in-Err.status c.args.conf.now c.args.script.now (g.X.Texts.texts c.args.texts.now) _ _ (c.in-Err.ensures.says told) (c.in-Err.ensures.asks told)
+returns-in-Err-clause-asks g c told = conf_asks c.args.conf.now c.args.script.now (g.X.Texts.texts c.args.texts.now) _ (g.X.Texts.calls c.args.texts.now) _ c.in-Err.status (c.in-Err.ensures.asks told)
 
 pub returns-in-Err-read_script-clause-asks : goal.returns-in-Err-read_script-clause-asks
 returns-in-Err-read_script-clause-asks g c told =
-    let kept : g.X.Texts.texts c.read_conf.new.texts c.args.script.now ≡ g.X.Texts.texts c.args.texts.now c.args.script.now = ap (λ (texts : List ℕ → Option (List ℕ)). texts c.args.script.now) (c.read_conf.ensures.texts told) in
-    script_asks c.in-Err-read_script.status c.args.conf.now c.args.script.now (g.X.Texts.texts c.args.texts.now) _ _ _ (c.in-Ok.root, c.in-Ok.ensures.says told) (c.in-Ok.ensures.asks told)
+    let kept : g.X.Texts.texts c.load_conf.new.texts c.args.script.now ≡ g.X.Texts.texts c.args.texts.now c.args.script.now = ap (λ (texts : List ℕ → Option (List ℕ)). texts c.args.script.now) (c.load_conf.ensures.texts told) in
+    script_asks c.args.conf.now c.args.script.now (g.X.Texts.texts c.args.texts.now) _ _ _ c.in-Err-read_script.status (c.in-Ok.loaded, c.in-Ok.ensures.asks told)
     (subst (λ (held : Option (List ℕ)). ScriptSays (Err c.in-Err-read_script.status) held) kept (c.in-Err-read_script.ensures.says told)) (c.in-Err-read_script.ensures.asks told)
 
 pub returns-then-is_err-clause-asks : goal.returns-then-is_err-clause-asks
 returns-then-is_err-clause-asks g c told =
-    inr (inr (both_asked fetch.Text c.args.conf.now c.args.script.now (g.X.Texts.texts c.args.texts.now) _ _ _ (c.in-Ok.root, c.in-Ok.ensures.says told) (c.in-Ok.ensures.asks told) (c.in-Ok-read_script.ensures.asks told)))
+    loaded_asks c.args.conf.now c.args.script.now (g.X.Texts.texts c.args.texts.now) _ _ _ (c.in-Ok.loaded, c.in-Ok.ensures.asks told) (c.in-Ok-read_script.ensures.asks told)
 
 pub returns-clause-asks : goal.returns-clause-asks
 returns-clause-asks g c told =
-    inr (inr (both_asked fetch.Text c.args.conf.now c.args.script.now (g.X.Texts.texts c.args.texts.now) _ _ _ (c.in-Ok.root, c.in-Ok.ensures.says told) (c.in-Ok.ensures.asks told) (c.in-Ok-read_script.ensures.asks told)))
+    loaded_asks c.args.conf.now c.args.script.now (g.X.Texts.texts c.args.texts.now) _ _ _ (c.in-Ok.loaded, c.in-Ok.ensures.asks told) (c.in-Ok-read_script.ensures.asks told)
 
 pub returns-in-Ok-new-clause-asks : goal.returns-in-Ok-new-clause-asks
 returns-in-Ok-new-clause-asks g c told =
-    play_asks c.play.result _ c.args.conf.now c.args.script.now (g.X.Texts.texts c.args.texts.now) _ _ c.play.ensures.ends
-    (both_asked fetch.Text c.args.conf.now c.args.script.now (g.X.Texts.texts c.args.texts.now) _ _ _ (c.in-Ok.root, c.in-Ok.ensures.says told) (c.in-Ok.ensures.asks told) (c.in-Ok-read_script.ensures.asks told))
-
-pub returns-in_default-clause-asks : goal.returns-in_default-clause-asks
-returns-in_default-clause-asks g c told =
-    inr (inr (both_asked fetch.Text c.args.conf.now c.args.script.now (g.X.Texts.texts c.args.texts.now) _ _ _ (c.in-Ok.root, c.in-Ok.ensures.says told) (c.in-Ok.ensures.asks told) (c.in-Ok-read_script.ensures.asks told)))
+    play_asks c.args.conf.now c.args.script.now (g.X.Texts.texts c.args.texts.now) _ _ _ c.play.result _ c.play.ensures.ends (c.in-Ok.loaded, c.in-Ok.ensures.asks told) (c.in-Ok-read_script.ensures.asks told)
