@@ -23,6 +23,8 @@ pub struct Row<'t> {
     name: &'t [u8],
     words: &'t [u8],
     conf: Text,
+    /// The texts that configurations include.
+    included: Vec<Named<'t>>,
     script: Text,
     /// The script with a line for each byte that is sent, where the row has such lines.
     bytewise: Text,
@@ -43,6 +45,7 @@ impl<'t> Row<'t> {
             name,
             words: WORDS,
             conf,
+            included: Vec::new(alloc),
             bytewise: Text::from_bytes(alloc, script.bytes())?,
             script,
             sends: false,
@@ -69,6 +72,7 @@ impl<'t> Row<'t> {
             b"status" => self.set_status(rest),
             b"room" => self.set_room(rest),
             b"fails" => self.set_failing(rest),
+            b"include" => self.include(names, rest),
             _ => self.take_bytes(key, bytes_of(self.alloc, names, rest)?),
         }
     }
@@ -84,6 +88,14 @@ impl<'t> Row<'t> {
             b"output" => self.output.push_all(bytes.bytes())?,
             _ => bail!("no such line"),
         }
+        Ok(())
+    }
+
+    // `NAME PIECE..`
+    fn include(&mut self, names: &[Named<'_>], rest: &'t [u8]) -> Result<()> {
+        let (name, pieces) = first_word(rest);
+        let bytes = bytes_of(self.alloc, names, pieces)?;
+        self.included.push(Named { name, bytes })?;
         Ok(())
     }
 
@@ -203,12 +215,15 @@ impl<'t> Row<'t> {
         Ok(false)
     }
 
-    // The status and the output of the call, where CONF and SCRIPT name the row's texts.
+    // The status and the output of the call, where CONF, SCRIPT and what is included name the row's texts.
     fn call(&self, script: &[u8]) -> Result<(Status, Text)> {
         let words = self.words()?;
         let mut texts = MemTexts::new(self.alloc);
         texts.add(b"CONF", self.conf.bytes())?;
         texts.add(b"SCRIPT", script)?;
+        for text in &self.included {
+            texts.add(text.name, text.bytes.bytes())?;
+        }
         if let Some(nth) = self.fails {
             texts.plan(nth)?;
         }
