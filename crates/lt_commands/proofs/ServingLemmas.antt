@@ -19,7 +19,7 @@ use Rattle.lt_commands.specs.Serving.{ServesBy, ServesSome}
 use Rattle.lt_commands.proofs.RunLemmas.{unserved}
 
 abbrev no_script : Script
-no_script = record { files = []; steps = [] }
+no_script = record { files = []; faults = []; steps = [] }
 
 -- nothing was played of nothing
 pub nothing_played : (trace : List Entry) → trace ≡ [] → Plays [] trace []

@@ -1,16 +1,19 @@
 -- A line of the grammar is read.
-use Rattle.std.proofs.Common.{◌≡◌, ℕ, Bool, false, List, [], ◌∷◌, ◌++◌, length, get_or, refl, ap, sym, ◌∙◌, Some, codes, inl, inr, arith, append-nil, append_assoc}
+use Rattle.std.proofs.Common.{◌≡◌, ℕ, ◌≤◌, Bool, false, List, [], ◌∷◌, ◌++◌, length, get_or, refl, ap, sym, ◌∙◌, Some, codes, inl, inr, arith, append-nil, append_assoc}
 use Rattle.std.specs.Fmt.{decimal}
 use Rattle.lt_world.specs.declared.net.Address.{Address}
 use Rattle.lt_script.specs.declared.script.Name.{Name}
 use Rattle.lt_script.specs.declared.script.Step.TheVariants as step
 use Rattle.lt_script.specs.declared.script.ScriptFile.TheVariants as file
-use Rattle.lt_script.specs.declared.limits.TheConstants.{NAME_LIMIT, TIME_LIMIT, FILL_LIMIT, POUR_LIMIT, TAKE_LIMIT, COUNT_LIMIT}
+use Rattle.lt_script.specs.declared.script.ScriptFault.{ScriptFault}
+use Rattle.lt_script.specs.declared.script.FaultCall.{FaultCall}
+use Rattle.lt_script.specs.declared.script.FaultCall.TheVariants as call
+use Rattle.lt_script.specs.declared.limits.TheConstants.{NAME_LIMIT, TIME_LIMIT, FILL_LIMIT, POUR_LIMIT, TAKE_LIMIT, COUNT_LIMIT, FAULT_LIMIT}
 use Rattle.lt_script.specs.declared.lines.Line.{Line}
-use Rattle.lt_script.specs.declared.lines.Line.TheVariants.{Skip, File, Step}
+use Rattle.lt_script.specs.declared.lines.Line.TheVariants.{Skip, File, Fault, Step}
 use Rattle.lt_script.specs.Fields.{digits_len, number_at, name_at, address_at, octet_at, end_at}
-use Rattle.lt_script.specs.Lines.{line_of, plain_of, accept_of, data_of, pour_of, end_of, ready_of, read_fail_of, take_of, write_fail_of, file_of, fill_of, dir_of}
-use Rattle.lt_script.specs.Grammar.{name_text, IsName, address_text, IsAddress, IsLine, IsAccept, IsData, IsPour, IsEnd, IsReady, IsReadFail, IsTake, IsWriteFail, IsFile, IsFill, IsDir}
+use Rattle.lt_script.specs.Lines.{line_of, plain_of, accept_of, data_of, pour_of, end_of, ready_of, read_fail_of, take_of, write_fail_of, nth_of, fault_of, file_of, fill_of, dir_of}
+use Rattle.lt_script.specs.Grammar.{name_text, IsName, address_text, IsAddress, IsLine, IsAccept, IsData, IsPour, IsEnd, IsReady, IsReadFail, IsTake, IsWriteFail, IsFault, call_text, IsFile, IsFill, IsDir}
 use Rattle.lt_script.proofs.Numbers.{number_again, last_number}
 use Rattle.lt_script.proofs.Quoted.{quoted_again}
 
@@ -113,6 +116,24 @@ dir_again : (path bytes : List ℕ) → IsDir path bytes → line_of bytes ≡ S
 unfolding line_of dir_of
 dir_again path bytes line = rw line.spelled (rw (quoted_again path line.named [] line.is_named) (rw line.rooted refl))
 
+nth_again : (which : FaultCall) (nth : ℕ) → nth ≤ FAULT_LIMIT → nth_of which (decimal nth) ≡ Some (Fault (record { call = which; nth = nth }))
+unfolding nth_of
+nth_again which nth most = rw (last_number 0 FAULT_LIMIT nth (omega arith) most (omega arith)) refl
+
+-- each kind is told from those before it
+call_again : (which : FaultCall) (nth : ℕ) → nth ≤ FAULT_LIMIT → fault_of (call_text which ++ (codes " " ++ decimal nth)) ≡ Some (Fault (record { call = which; nth = nth }))
+unfolding fault_of
+call_again call.Connect nth most = nth_again call.Connect nth most
+call_again call.Find nth most = nth_again call.Find nth most
+call_again call.Open nth most = nth_again call.Open nth most
+call_again call.File nth most = nth_again call.File nth most
+call_again call.Listen nth most = nth_again call.Listen nth most
+call_again call.Wait nth most = nth_again call.Wait nth most
+
+fault_again : (fault : ScriptFault) (bytes : List ℕ) → IsFault fault bytes → line_of bytes ≡ Some (Fault fault)
+unfolding line_of plain_of
+fault_again fault bytes line = rw line.spelled (call_again fault.call fault.nth line.most)
+
 pub line_again : (line : Line) (bytes : List ℕ) → IsLine line bytes → line_of bytes ≡ Some line
 unfolding line_of plain_of
 line_again (Step (step.Accept peer local)) bytes is = accept_again peer local bytes is
@@ -124,6 +145,7 @@ line_again (Step (step.ReadFail link)) bytes is = read_fail_again link bytes is
 line_again (Step (step.WriteFail link)) bytes is = write_fail_again link bytes is
 line_again (Step step.Idle) bytes is = idle_again bytes is
 line_again (Step (step.Take link size count)) bytes is = take_again link size count bytes is
+line_again (Fault fault) bytes is = fault_again fault bytes is
 line_again (File (file.Bytes path time text)) bytes is = file_again path time text bytes is
 line_again (File (file.Fill path time size)) bytes is = fill_again path time size bytes is
 line_again (File (file.Dir path)) bytes is = dir_again path bytes is

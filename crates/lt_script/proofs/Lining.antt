@@ -1,7 +1,7 @@
 -- Lines of a text, and what they come to.
 use Rattle.std.proofs.Common.{◌≡◌, ℕ, ◌+◌, ◌<◌, ◌≤◌, Bool, true, false, List, [], ◌∷◌, length, refl, ap, sym, ◌∙◌, arith, append_assoc, Option, Some, None, option_map, Result, Ok, Err, if◌then◌else◌, ◌==◌}
 use Rattle.lt_script.specs.declared.lines.Line.{Line}
-use Rattle.lt_script.specs.declared.lines.Line.TheVariants.{Skip, File, Step}
+use Rattle.lt_script.specs.declared.lines.Line.TheVariants.{Skip, File, Fault, Step}
 use Rattle.lt_script.specs.declared.script.Script.{Script}
 use Rattle.lt_script.specs.declared.script.ScriptError.{ScriptError}
 use Rattle.lt_script.specs.declared.script.ScriptError.TheVariants as error
@@ -36,9 +36,11 @@ lines_uncut bytes found = lines_by_cut bytes ∙ ap (from_cut bytes) found
 joined_first : (front : Script) (line : Line) (rest : Result Script ℕ) → joined front (with_first line rest) ≡ joined (added front line) rest
 joined_first front Skip (Ok script) = refl
 joined_first front (File file) (Ok script) = rw (append_assoc front.files (file ∷ []) script.files) refl
+joined_first front (Fault fault) (Ok script) = rw (append_assoc front.faults (fault ∷ []) script.faults) refl
 joined_first front (Step step) (Ok script) = rw (append_assoc front.steps (step ∷ []) script.steps) refl
 joined_first front Skip (Err number) = refl
 joined_first front (File file) (Err number) = refl
+joined_first front (Fault fault) (Err number) = refl
 joined_first front (Step step) (Err number) = refl
 
 pub went_bad : (front : Script) (number : ℕ) (rest line next : List ℕ) (whole : Result Script ℕ)

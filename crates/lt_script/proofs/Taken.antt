@@ -7,14 +7,16 @@ use Rattle.lt_world.specs.Memory.{is_path}
 use Rattle.lt_script.specs.declared.script.Name.{Name}
 use Rattle.lt_script.specs.declared.script.Step.TheVariants as step
 use Rattle.lt_script.specs.declared.script.ScriptFile.TheVariants as file
-use Rattle.lt_script.specs.declared.limits.TheConstants.{NAME_LIMIT, TIME_LIMIT, FILL_LIMIT, POUR_LIMIT, TAKE_LIMIT, COUNT_LIMIT}
+use Rattle.lt_script.specs.declared.script.FaultCall.{FaultCall}
+use Rattle.lt_script.specs.declared.script.FaultCall.TheVariants as call
+use Rattle.lt_script.specs.declared.limits.TheConstants.{NAME_LIMIT, TIME_LIMIT, FILL_LIMIT, POUR_LIMIT, TAKE_LIMIT, COUNT_LIMIT, FAULT_LIMIT}
 use Rattle.lt_script.specs.declared.lines.Line.{Line}
-use Rattle.lt_script.specs.declared.lines.Line.TheVariants.{Skip, File, Step}
+use Rattle.lt_script.specs.declared.lines.Line.TheVariants.{Skip, File, Fault, Step}
 use Rattle.lt_script.specs.declared.quoting.State.TheVariants.{Plain}
 use Rattle.lt_script.specs.Quoting.{unquote}
 use Rattle.lt_script.specs.Fields.{number_at, name_at, address_at, octet_at, end_at, after}
-use Rattle.lt_script.specs.Lines.{line_of, plain_of, ended, on, accept_of, data_of, pour_of, end_of, ready_of, read_fail_of, take_of, write_fail_of, file_of, fill_of, dir_of}
-use Rattle.lt_script.specs.Grammar.{name_text, IsName, address_text, IsAddress, IsLine}
+use Rattle.lt_script.specs.Lines.{line_of, plain_of, ended, on, accept_of, data_of, pour_of, end_of, ready_of, read_fail_of, take_of, write_fail_of, nth_of, fault_of, file_of, fill_of, dir_of}
+use Rattle.lt_script.specs.Grammar.{name_text, IsName, address_text, IsAddress, call_text, IsLine}
 use Rattle.lt_script.proofs.Fronts.{after_takes}
 use Rattle.lt_script.proofs.Numbers.{number_takes}
 use Rattle.lt_script.proofs.Quoted.{quoted_takes}
@@ -251,6 +253,42 @@ take_takes bytes said some =
           ∙ ap (λ r. codes " " ++ r) (w4.spelled ∙ ap (λ r. decimal v4.0.0 ++ r) e.0 ∙ append-nil (decimal v4.0.0))))));
     })
 
+-- the number of a call, and nothing more
+record NamesCall (which : FaultCall) (bytes : List ℕ) (said : Line) : Type 0 where
+  nth : ℕ
+  most : nth ≤ FAULT_LIMIT
+  says : Fault (record { call = which; nth = nth }) ≡ said
+  spelled : bytes ≡ decimal nth
+
+nth_takes : (which : FaultCall) (bytes : List ℕ) (said : Line) → nth_of which bytes ≡ Some said → NamesCall which bytes said
+unfolding nth_of
+nth_takes which bytes said some =
+    let v = bound (number_at 0 FAULT_LIMIT bytes) _ said some in
+    let w = number_takes 0 FAULT_LIMIT bytes v.0 v.1 in
+    let e = ended_takes v.0.1 (Fault (record { call = which; nth = v.0.0 })) said v.2 in
+    record { nth = v.0.0; most = w.high; says = e.1; spelled = w.spelled ∙ ap (λ r. decimal v.0.0 ++ r) e.0 ∙ append-nil (decimal v.0.0) }
+
+call_takes : (o : Option (List ℕ)) (which : FaultCall) (other : Option Line) (front bytes : List ℕ) (said : Line) → after front bytes ≡ o → front ≡ call_text which ++ codes " "
+    → on o (nth_of which) other ≡ Some said → (other ≡ Some said → IsLine said (codes "fault " ++ bytes)) → IsLine said (codes "fault " ++ bytes)
+call_takes None which other front bytes said has is some there = there some
+call_takes (Some rest) which other front bytes said has is some there =
+    let n = nth_takes which rest said some in
+    subst (λ (l : Line). IsLine l (codes "fault " ++ bytes)) n.says (record {
+      most = n.most;
+      spelled = ap (λ r. codes "fault " ++ r) (after_takes front bytes rest has ∙ ap (λ f. f ++ rest) is ∙ append_assoc (call_text which) (codes " ") rest
+          ∙ ap (λ r. call_text which ++ (codes " " ++ r)) n.spelled);
+    })
+
+fault_takes : (bytes : List ℕ) (said : Line) → fault_of bytes ≡ Some said → IsLine said (codes "fault " ++ bytes)
+unfolding fault_of
+fault_takes bytes said some =
+    call_takes (after (codes "connect ") bytes) call.Connect _ (codes "connect ") bytes said refl refl some (λ some.
+    call_takes (after (codes "find ") bytes) call.Find _ (codes "find ") bytes said refl refl some (λ some.
+    call_takes (after (codes "open ") bytes) call.Open _ (codes "open ") bytes said refl refl some (λ some.
+    call_takes (after (codes "file ") bytes) call.File _ (codes "file ") bytes said refl refl some (λ some.
+    call_takes (after (codes "listen ") bytes) call.Listen _ (codes "listen ") bytes said refl refl some (λ some.
+    call_takes (after (codes "wait ") bytes) call.Wait _ (codes "wait ") bytes said refl refl some (λ some. absurd (cc some)))))))
+
 file_takes : (bytes : List ℕ) (said : Line) → file_of bytes ≡ Some said → IsLine said (codes "file \"" ++ bytes)
 unfolding file_of
 file_takes bytes said some =
@@ -340,7 +378,8 @@ plain_takes line said some =
     on_takes (after (codes "rfail ") line) _ _ (codes "rfail ") line said refl some (λ r h. read_fail_takes r said h) (λ some.
     on_takes (after (codes "take ") line) _ _ (codes "take ") line said refl some (λ r h. take_takes r said h) (λ some.
     on_takes (after (codes "wfail ") line) _ _ (codes "wfail ") line said refl some (λ r h. write_fail_takes r said h) (λ some.
-    on_takes (after (codes "idle") line) _ _ (codes "idle") line said refl some (λ r h. idle_takes r said h) (λ some. empty_takes line said some))))))))
+    on_takes (after (codes "fault ") line) _ _ (codes "fault ") line said refl some (λ r h. fault_takes r said h) (λ some.
+    on_takes (after (codes "idle") line) _ _ (codes "idle") line said refl some (λ r h. idle_takes r said h) (λ some. empty_takes line said some)))))))))
 
 pub line_takes : (line : List ℕ) (said : Line) → line_of line ≡ Some said → IsLine said line
 unfolding line_of

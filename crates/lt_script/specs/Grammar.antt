@@ -7,9 +7,12 @@ use Rattle.lt_world.specs.Memory.{is_path}
 use Rattle.lt_script.specs.declared.script.Name.{Name}
 use Rattle.lt_script.specs.declared.script.Step.TheVariants as step
 use Rattle.lt_script.specs.declared.script.ScriptFile.TheVariants as file
-use Rattle.lt_script.specs.declared.limits.TheConstants.{NAME_LIMIT, TIME_LIMIT, FILL_LIMIT, POUR_LIMIT, TAKE_LIMIT, COUNT_LIMIT}
+use Rattle.lt_script.specs.declared.script.ScriptFault.{ScriptFault}
+use Rattle.lt_script.specs.declared.script.FaultCall.{FaultCall}
+use Rattle.lt_script.specs.declared.script.FaultCall.TheVariants as call
+use Rattle.lt_script.specs.declared.limits.TheConstants.{NAME_LIMIT, TIME_LIMIT, FILL_LIMIT, POUR_LIMIT, TAKE_LIMIT, COUNT_LIMIT, FAULT_LIMIT}
 use Rattle.lt_script.specs.declared.lines.Line.{Line}
-use Rattle.lt_script.specs.declared.lines.Line.TheVariants.{Skip, File, Step}
+use Rattle.lt_script.specs.declared.lines.Line.TheVariants.{Skip, File, Fault, Step}
 
 -- one byte of a quoted text, and how it may be written
 pub data IsPiece : ℕ → List ℕ → Type 0 where
@@ -94,6 +97,20 @@ pub record IsWriteFail (link : Name) (bytes : List ℕ) : Type 0 where
   pub is_name : IsName link
   pub spelled : bytes ≡ codes "wfail " ++ name_text link
 
+-- a kind of call
+abbrev pub call_text : FaultCall → List ℕ
+call_text call.Connect = codes "connect"
+call_text call.Find = codes "find"
+call_text call.Open = codes "open"
+call_text call.File = codes "file"
+call_text call.Listen = codes "listen"
+call_text call.Wait = codes "wait"
+
+-- `fault KIND K`
+pub record IsFault (fault : ScriptFault) (bytes : List ℕ) : Type 0 where
+  pub most : fault.nth ≤ FAULT_LIMIT
+  pub spelled : bytes ≡ codes "fault " ++ (call_text fault.call ++ (codes " " ++ decimal fault.nth))
+
 -- `file "PATH" TIME "BYTES"`
 pub record IsFile (path : List ℕ) (time : ℕ) (text bytes : List ℕ) : Type 0 where
   pub named : List ℕ
@@ -135,6 +152,7 @@ IsLine (Step (step.ReadFail link)) bytes = IsReadFail link bytes
 IsLine (Step (step.Take link size count)) bytes = IsTake link size count bytes
 IsLine (Step (step.WriteFail link)) bytes = IsWriteFail link bytes
 IsLine (Step step.Idle) bytes = bytes ≡ codes "idle"
+IsLine (Fault fault) bytes = IsFault fault bytes
 IsLine (File (file.Bytes path time text)) bytes = IsFile path time text bytes
 IsLine (File (file.Fill path time size)) bytes = IsFill path time size bytes
 IsLine (File (file.Dir path)) bytes = IsDir path bytes

@@ -3,9 +3,11 @@ use Rattle.std.specs.Prelude.{ℕ, List, [], ◌∷◌, Option, Some, None, if�
 use Rattle.lt_world.specs.Memory.{is_path}
 use Rattle.lt_script.specs.declared.script.Step.TheVariants as step
 use Rattle.lt_script.specs.declared.script.ScriptFile.TheVariants as file
-use Rattle.lt_script.specs.declared.limits.TheConstants.{TIME_LIMIT, FILL_LIMIT, POUR_LIMIT, TAKE_LIMIT, COUNT_LIMIT}
+use Rattle.lt_script.specs.declared.script.FaultCall.{FaultCall}
+use Rattle.lt_script.specs.declared.script.FaultCall.TheVariants as call
+use Rattle.lt_script.specs.declared.limits.TheConstants.{TIME_LIMIT, FILL_LIMIT, POUR_LIMIT, TAKE_LIMIT, COUNT_LIMIT, FAULT_LIMIT}
 use Rattle.lt_script.specs.declared.lines.Line.{Line}
-use Rattle.lt_script.specs.declared.lines.Line.TheVariants.{Skip, File, Step}
+use Rattle.lt_script.specs.declared.lines.Line.TheVariants.{Skip, File, Fault, Step}
 use Rattle.lt_script.specs.declared.quoting.State.TheVariants.{Plain}
 use Rattle.lt_script.specs.Gives.{◌>>=◌}
 use Rattle.lt_script.specs.Fields.{after, number_at, name_at, address_at}
@@ -80,6 +82,12 @@ write_fail_of bytes = do
   link ← name_at bytes
   ended link.1 (Step (step.WriteFail link.0))
 
+-- the number of a call, after its kind
+unfoldable pub nth_of : FaultCall → List ℕ → Option Line
+nth_of which bytes = do
+  nth ← number_at 0 FAULT_LIMIT bytes
+  ended nth.1 (Fault (record { call = which; nth = nth.0 }))
+
 -- the rest of a `file` line, from its path on
 unfoldable pub file_of : List ℕ → Option Line
 file_of bytes = do
@@ -111,6 +119,17 @@ abbrev pub on : Option (List ℕ) → (List ℕ → Option Line) → Option Line
 on None f other = other
 on (Some rest) f other = f rest
 
+-- the rest of a `fault` line
+unfoldable pub fault_of : List ℕ → Option Line
+fault_of bytes =
+    on (after (codes "connect ") bytes) (nth_of call.Connect)
+    (on (after (codes "find ") bytes) (nth_of call.Find)
+    (on (after (codes "open ") bytes) (nth_of call.Open)
+    (on (after (codes "file ") bytes) (nth_of call.File)
+    (on (after (codes "listen ") bytes) (nth_of call.Listen)
+    (on (after (codes "wait ") bytes) (nth_of call.Wait)
+    None)))))
+
 -- a line without a text between quotes
 unfoldable pub plain_of : List ℕ → Option Line
 plain_of line =
@@ -121,8 +140,9 @@ plain_of line =
     (on (after (codes "rfail ") line) read_fail_of
     (on (after (codes "take ") line) take_of
     (on (after (codes "wfail ") line) write_fail_of
+    (on (after (codes "fault ") line) fault_of
     (on (after (codes "idle") line) (λ rest. ended rest (Step step.Idle))
-    (ended line Skip))))))))
+    (ended line Skip)))))))))
 
 -- what a line says, if it is one of the grammar
 unfoldable pub line_of : List ℕ → Option Line

@@ -5,15 +5,20 @@ use Rattle.lt_bytes.specs.Quoting.{quoted}
 use Rattle.lt_script.specs.declared.script.Script.{Script}
 use Rattle.lt_script.specs.declared.script.ScriptFile.{ScriptFile}
 use Rattle.lt_script.specs.declared.script.ScriptFile.TheVariants as file
+use Rattle.lt_script.specs.declared.script.ScriptFault.{ScriptFault}
 use Rattle.lt_script.specs.declared.script.Step.{Step}
 use Rattle.lt_script.specs.declared.script.Step.TheVariants as step
-use Rattle.lt_script.specs.Grammar.{name_text, address_text}
+use Rattle.lt_script.specs.Grammar.{name_text, address_text, call_text}
 
 -- the line of a file or a directory
 abbrev pub file_text : ScriptFile → List ℕ
 file_text (file.Bytes path time bytes) = codes "file \"" ++ (quoted path ++ (codes "\" " ++ (decimal time ++ (codes " \"" ++ (quoted bytes ++ codes "\"")))))
 file_text (file.Fill path time size) = codes "fill \"" ++ (quoted path ++ (codes "\" " ++ (decimal time ++ (codes " " ++ decimal size))))
 file_text (file.Dir path) = codes "dir \"" ++ (quoted path ++ codes "\"")
+
+-- the line of a fault
+abbrev pub fault_text : ScriptFault → List ℕ
+fault_text fault = codes "fault " ++ (call_text fault.call ++ (codes " " ++ decimal fault.nth))
 
 -- the line of a step
 abbrev pub step_text : Step → List ℕ
@@ -35,10 +40,14 @@ with_feed line = line ++ codes "\n"
 abbrev pub printed_files : List ScriptFile → List ℕ
 printed_files files = flat_map (λ f. with_feed (file_text f)) files
 
+-- the lines of the faults
+abbrev pub printed_faults : List ScriptFault → List ℕ
+printed_faults faults = flat_map (λ f. with_feed (fault_text f)) faults
+
 -- the lines of the steps
 abbrev pub printed_steps : List Step → List ℕ
 printed_steps steps = flat_map (λ s. with_feed (step_text s)) steps
 
--- the first line, the files, and then the steps
+-- the first line, the files, the faults, and then the steps
 abbrev pub printed : Script → List ℕ
-printed script = with_feed (codes "lighttpd-script 1") ++ (printed_files script.files ++ printed_steps script.steps)
+printed script = with_feed (codes "lighttpd-script 1") ++ (printed_files script.files ++ (printed_faults script.faults ++ printed_steps script.steps))

@@ -5,7 +5,7 @@ use Rattle.lt_script.specs.declared.script.ScriptError.{ScriptError}
 use Rattle.lt_script.specs.declared.script.ScriptError.TheVariants as error
 use Rattle.lt_script.specs.declared.limits.TheConstants.{SCRIPT_LIMIT}
 use Rattle.lt_script.specs.declared.lines.Line.{Line}
-use Rattle.lt_script.specs.declared.lines.Line.TheVariants.{Skip, File, Step}
+use Rattle.lt_script.specs.declared.lines.Line.TheVariants.{Skip, File, Fault, Step}
 use Rattle.lt_script.specs.Fields.{after}
 use Rattle.lt_script.specs.Lines.{line_of}
 use Rattle.lt_script.specs.Texts.{lines_of, first}
@@ -27,7 +27,7 @@ with_line (Some line) number rest = with_first line rest
 
 -- what lines from this number on say, or the first of them that says nothing
 abbrev pub script_from : ℕ → List (List ℕ) → List ℕ → Result Script ℕ
-script_from number [] [] = Ok (record { files = []; steps = [] })
+script_from number [] [] = Ok (record { files = []; faults = []; steps = [] })
 script_from number [] (b ∷ last) = Err number
 script_from number (line ∷ lines) last = with_line (line_of line) number (script_from (number + 1) lines last)
 
@@ -63,13 +63,14 @@ GivesScript (Err e) bytes = RefusesScript e bytes
 
 -- what a part that was read and the rest give
 abbrev pub joined : Script → Result Script ℕ → Result Script ℕ
-joined front (Ok script) = Ok (record { files = front.files ++ script.files; steps = front.steps ++ script.steps })
+joined front (Ok script) = Ok (record { files = front.files ++ script.files; faults = front.faults ++ script.faults; steps = front.steps ++ script.steps })
 joined front (Err number) = Err number
 
 -- a script with one more line
 abbrev pub added : Script → Line → Script
 added front Skip = front
 added front (File file) = record front { files = front.files ++ file ∷ [] }
+added front (Fault fault) = record front { faults = front.faults ++ fault ∷ [] }
 added front (Step step) = record front { steps = front.steps ++ step ∷ [] }
 
 -- a refusal after the first line is the one of the lines

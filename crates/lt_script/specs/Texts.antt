@@ -4,7 +4,7 @@ use Rattle.lt_script.specs.declared.script.Script.{Script}
 use Rattle.lt_script.specs.declared.script.ScriptError.{ScriptError}
 use Rattle.lt_script.specs.declared.script.ScriptError.TheVariants as error
 use Rattle.lt_script.specs.declared.lines.Line.{Line}
-use Rattle.lt_script.specs.declared.lines.Line.TheVariants.{Skip, File, Step}
+use Rattle.lt_script.specs.declared.lines.Line.TheVariants.{Skip, File, Fault, Step}
 use Rattle.lt_script.specs.Grammar.{IsLine}
 
 -- a byte in front of the first line
@@ -27,11 +27,12 @@ AreLines lines items = ⊥
 abbrev pub first : Line → Script → Script
 first Skip script = script
 first (File file) script = record script { files = file ∷ script.files }
+first (Fault fault) script = record script { faults = fault ∷ script.faults }
 first (Step step) script = record script { steps = step ∷ script.steps }
 
--- the files and the steps of lines, in their order
+-- the files, the faults and the steps of lines, each kind in its order
 abbrev pub gathered : List Line → Script
-gathered [] = record { files = []; steps = [] }
+gathered [] = record { files = []; faults = []; steps = [] }
 gathered (item ∷ items) = first item (gathered items)
 
 -- the text is the first line, and then lines of the grammar that say this, each ended by a line feed

@@ -1,6 +1,6 @@
 //! Laws of the text of a script.
 ghost use Rattle.std.specs.Prelude.{◌≡◌};
-ghost use Rattle.lt_script.specs.declared.limits.TheConstants.{SCRIPT_LIMIT, NAME_LIMIT, TIME_LIMIT, FILL_LIMIT, POUR_LIMIT, TAKE_LIMIT, COUNT_LIMIT};
+ghost use Rattle.lt_script.specs.declared.limits.TheConstants.{SCRIPT_LIMIT, NAME_LIMIT, TIME_LIMIT, FILL_LIMIT, POUR_LIMIT, TAKE_LIMIT, COUNT_LIMIT, FAULT_LIMIT};
 ghost use Rattle.lt_script.specs.Laws.{OneScript, PrintedIsRead};
 
 /// A text spells one script.
@@ -22,4 +22,5 @@ pub fn limits()
     ensures pour { POUR_LIMIT ≡ 8388608 }
     ensures take { TAKE_LIMIT ≡ 65536 }
     ensures count { COUNT_LIMIT ≡ 4096 }
+    ensures fault { FAULT_LIMIT ≡ 1000000 }
 {}

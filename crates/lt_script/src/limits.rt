@@ -20,3 +20,6 @@ pub const TAKE_LIMIT: u64 = 65_536;
 
 /// The most events of one line.
 pub const COUNT_LIMIT: u64 = 4_096;
+
+/// The greatest number of a call that a `fault` line names.
+pub const FAULT_LIMIT: u64 = 1_000_000;

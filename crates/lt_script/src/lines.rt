@@ -2,12 +2,12 @@
 ghost use Rattle.std.specs.Prelude.{◌≡◌};
 ghost use Rattle.lt_world.specs.Memory.{is_path};
 ghost use Rattle.lt_script.specs.Gives.{Gives};
-ghost use Rattle.lt_script.specs.Lines.{ended, accept_of, data_of, pour_of, end_of, ready_of, read_fail_of, take_of, write_fail_of, file_of, fill_of, dir_of, plain_of, line_of};
+ghost use Rattle.lt_script.specs.Lines.{ended, accept_of, data_of, pour_of, end_of, ready_of, read_fail_of, take_of, write_fail_of, nth_of, fault_of, file_of, fill_of, dir_of, plain_of, line_of};
 
 use crate::fields::{LineError, address_at, after, name_at, number_at};
-use crate::limits::{COUNT_LIMIT, FILL_LIMIT, POUR_LIMIT, TAKE_LIMIT, TIME_LIMIT};
+use crate::limits::{COUNT_LIMIT, FAULT_LIMIT, FILL_LIMIT, POUR_LIMIT, TAKE_LIMIT, TIME_LIMIT};
 use crate::quoting::text_at;
-use crate::script::{ScriptFile, Step};
+use crate::script::{FaultCall, ScriptFault, ScriptFile, Step};
 use std::alloc::Global;
 
 /// What a line says.
@@ -16,6 +16,7 @@ pub enum Line {
     /// Nothing: a comment, or an empty line.
     Skip,
     File(ScriptFile),
+    Fault(ScriptFault),
     Step(Step),
 }
 
@@ -67,6 +68,9 @@ fn plain_of(line: &[u8]) -> Option<Line>
     }
     if let Some(rest) = after(b"wfail ", line) {
         return write_fail_of(rest);
+    }
+    if let Some(rest) = after(b"fault ", line) {
+        return fault_of(rest);
     }
     if let Some(rest) = after(b"idle", line) {
         return ended(rest, Line::Step(Step::Idle));
@@ -184,6 +188,43 @@ fn write_fail_of(bytes: &[u8]) -> Option<Line>
 {
     let (link, rest) = name_at(bytes)?;
     ended(rest, Line::Step(Step::WriteFail { link }))
+}
+
+#[tactic(auto, unfolding(crate::specs::Lines::fault_of))]
+fn fault_of(bytes: &[u8]) -> Option<Line>
+    ensures { result ≡ fault_of bytes.now }
+{
+    if let Some(rest) = after(b"connect ", bytes) {
+        return nth_of(FaultCall::Connect, rest);
+    }
+    if let Some(rest) = after(b"find ", bytes) {
+        return nth_of(FaultCall::Find, rest);
+    }
+    if let Some(rest) = after(b"open ", bytes) {
+        return nth_of(FaultCall::Open, rest);
+    }
+    if let Some(rest) = after(b"file ", bytes) {
+        return nth_of(FaultCall::File, rest);
+    }
+    if let Some(rest) = after(b"listen ", bytes) {
+        return nth_of(FaultCall::Listen, rest);
+    }
+    if let Some(rest) = after(b"wait ", bytes) {
+        return nth_of(FaultCall::Wait, rest);
+    }
+    None
+}
+
+#[tactic(auto, unfolding(crate::specs::Lines::nth_of))]
+fn nth_of(call: FaultCall, bytes: &[u8]) -> Option<Line>
+    ensures { result ≡ nth_of call bytes.now }
+{
+    let (nth, rest) = number_at(0, FAULT_LIMIT, bytes)?;
+    let fault = ScriptFault {
+        call,
+        nth: nth as u32,
+    };
+    ended(rest, Line::Fault(fault))
 }
 
 #[tactic(auto, unfolding(crate::specs::Lines::file_of))]

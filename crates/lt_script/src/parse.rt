@@ -76,6 +76,7 @@ fn read_lines(alloc: Global, bytes: &[u8]) -> Result<Script, ScriptError>
 {
     let mut script = Script {
         files: List::new(alloc),
+        faults: List::new(alloc),
         steps: List::new(alloc),
     };
     let mut rest = bytes;
@@ -105,6 +106,7 @@ fn add(script: &mut Script, line: Line) -> Result<(), NoMemory>
     match line {
         Line::Skip => Ok(()),
         Line::File(file) => script.files.push(file),
+        Line::Fault(fault) => script.faults.push(fault),
         Line::Step(step) => script.steps.push(step),
     }
 }

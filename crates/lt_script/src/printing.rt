@@ -2,15 +2,15 @@
 ghost use Rattle.std.specs.Prelude.{◌≡◌, ◌++◌, OnOk, IfOk, codes};
 ghost use Rattle.lt_bytes.specs.Quoting.{quoted};
 ghost use Rattle.std.specs.Fmt.{decimal};
-ghost use Rattle.lt_script.specs.Grammar.{name_text, address_text};
-ghost use Rattle.lt_script.specs.Printing.{file_text, step_text, printed_files, printed_steps, printed};
+ghost use Rattle.lt_script.specs.Grammar.{name_text, address_text, call_text};
+ghost use Rattle.lt_script.specs.Printing.{file_text, fault_text, step_text, printed_files, printed_faults, printed_steps, printed};
 
-use crate::script::{Name, Script, ScriptFile, Step};
+use crate::script::{FaultCall, Name, Script, ScriptFault, ScriptFile, Step};
 use lt_bytes::{NoMemory, Text, decimal, quoted};
 use lt_world::Address;
 use std::alloc::Global;
 
-/// The text of a script: its first line, its files, then its steps, each kind in its order, without comments. Reading
+/// The text of a script: its first line, its files, its faults, then its steps, each kind in its order, without comments. Reading
 /// it gives a script again that a text gave: `laws::what_is_printed_is_read`.
 pub fn print_script(alloc: Global, script: &Script) -> Result<Text, NoMemory>
     ensures { IfOk result (λ text. text ≡ printed script.now) }
@@ -18,6 +18,7 @@ pub fn print_script(alloc: Global, script: &Script) -> Result<Text, NoMemory>
     let mut text = Text::new(alloc);
     text.push_all(b"lighttpd-script 1\n")?;
     print_files(&mut text, script.files.as_slice())?;
+    print_faults(&mut text, script.faults.as_slice())?;
     print_steps(&mut text, script.steps.as_slice())?;
     Ok(text)
 }
@@ -27,6 +28,16 @@ fn print_files(text: &mut Text, files: &[ScriptFile]) -> Result<(), NoMemory>
 {
     for file in files {
         print_file(text, file)?;
+        text.push(b'\n')?;
+    }
+    Ok(())
+}
+
+fn print_faults(text: &mut Text, faults: &[ScriptFault]) -> Result<(), NoMemory>
+    ensures { OnOk result (text.new ≡ text.old ++ printed_faults faults.now) }
+{
+    for fault in faults {
+        print_fault(text, *fault)?;
         text.push(b'\n')?;
     }
     Ok(())
@@ -68,6 +79,28 @@ fn print_file(text: &mut Text, file: &ScriptFile) -> Result<(), NoMemory>
             push_quoted(text, path.bytes())?;
             text.push_all(b"\"")
         }
+    }
+}
+
+fn print_fault(text: &mut Text, fault: ScriptFault) -> Result<(), NoMemory>
+    ensures { OnOk result (text.new ≡ text.old ++ fault_text fault) }
+{
+    text.push_all(b"fault ")?;
+    text.push_all(call_text(fault.call))?;
+    text.push_all(b" ")?;
+    push_number(text, fault.nth as u64)
+}
+
+fn call_text(call: FaultCall) -> &'static [u8]
+    ensures { result.now ≡ call_text call }
+{
+    match call {
+        FaultCall::Connect => b"connect",
+        FaultCall::Find => b"find",
+        FaultCall::Open => b"open",
+        FaultCall::File => b"file",
+        FaultCall::Listen => b"listen",
+        FaultCall::Wait => b"wait",
     }
 }
 

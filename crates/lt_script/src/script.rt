@@ -1,12 +1,13 @@
-//! A script: the files of a run, and the events that a net hands out, in their order.
+//! A script: the files of a run, the calls that are to fail, and the events that a net hands out, in their order.
 use lt_bytes::{List, Text};
 use lt_world::Address;
 use thiserror::Error;
 
-/// What the lines of a script say: its files, and its steps, each kind in the order of the lines.
+/// What the lines of a script say: its files, its faults and its steps, each kind in the order of the lines.
 #[derive(Debug, Drop)]
 pub struct Script {
     pub files: List<ScriptFile>,
+    pub faults: List<ScriptFault>,
     pub steps: List<Step>,
 }
 
@@ -19,6 +20,30 @@ pub enum ScriptFile {
     Fill { path: Text, time: u64, size: u64 },
     /// `dir "PATH"`: a directory.
     Dir { path: Text },
+}
+
+/// `fault KIND K`: the Kth call of this kind, counted from 0, fails.
+#[derive(Clone, Copy, Debug)]
+pub struct ScriptFault {
+    pub call: FaultCall,
+    pub nth: u32,
+}
+
+/// A kind of call that a script can make fail by its number.
+#[derive(Clone, Copy, Debug)]
+pub enum FaultCall {
+    /// `connect`: a link to a gateway is asked for.
+    Connect,
+    /// `find`: a path is looked up.
+    Find,
+    /// `open`: a file is opened.
+    Open,
+    /// `file`: an opened file is read.
+    File,
+    /// `listen`: the net begins to accept clients.
+    Listen,
+    /// `wait`: the net waits until something is ready.
+    Wait,
 }
 
 /// A link as a script names it: `c0` is the first client that arrives, `c1` the second.

@@ -20,6 +20,12 @@ ready c0 1
 ready c0 4096
 rfail c0
 wfail c0
+fault connect 0
+fault find 1000000
+fault open 1
+fault file 2
+fault listen 0
+fault wait 7
 idle
 dir \"/a\"
 dir \"/a/\\xff\"
@@ -51,6 +57,14 @@ ready c0 0
 ready c0 4097
 rfail g0
 wfail
+fault listen
+fault listen 
+fault listen 00
+fault wait 1000001
+fault waits 0
+fault  wait 0
+fault read 0
+fault wait 0 1
 idle c0
 dir \"/a/\"
 dir \"/a\" 0
@@ -150,12 +164,16 @@ fn address(first: u8, last: u8, port: u16) -> Address {
 }
 
 #[test]
-fn a_script_is_printed_with_its_files_first(rt: HostRuntime) -> Result<(), Fail> {
+fn a_script_is_printed_with_its_files_first_and_then_its_faults(
+    rt: HostRuntime,
+) -> Result<(), Fail> {
     let alloc = rt.alloc();
     let written = b"\
 lighttpd-script 1
 # c
 idle
+fault wait 1000000
+fault find 0
 file \"/\\x61\" 5 \"\\x00\\r\\n\\\"\\\\ ~\\xff\"
 accept 10.0.0.5:40000 127.0.0.1:80
 data c0 \"\\x41\\x7f\\x0d\"
@@ -165,15 +183,25 @@ pour c0 8388608
 end c0
 ready c0 4096
 rfail c0
+fault listen 3
 take c1000000 0 1
 wfail c0
+fault connect 1
+fault open 2
 dir \"/d/\\xc3\"
+fault file 4
 ";
     let expected = b"\
 lighttpd-script 1
 file \"/a\" 5 \"\\x00\\r\\n\\\"\\\\ ~\\xff\"
 fill \"/b\" 0 7
 dir \"/d/\\xc3\"
+fault wait 1000000
+fault find 0
+fault listen 3
+fault connect 1
+fault open 2
+fault file 4
 idle
 accept 10.0.0.5:40000 127.0.0.1:80
 data c0 \"A\\x7f\\r\"
