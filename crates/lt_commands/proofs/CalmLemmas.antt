@@ -6,10 +6,10 @@ use Rattle.lt_world.specs.declared.net.Ending.{Ending}
 use Rattle.lt_world.specs.declared.net.Ending.TheVariants as ending
 use Rattle.lt_world.specs.Disk.{Tree}
 use Rattle.lt_world.specs.Trace.{Act, Entry, Accepted, Readable, Writable, Read, ReadEnd, NotYet, Failed, Wrote, Connect, Close}
-use Rattle.lt_script.specs.declared.script.Step.{Step}
+use Rattle.lt_script.specs.declared.script.Script.{Script}
 use Rattle.script_net.specs.Calls.{Game}
 use Rattle.script_net.specs.Plays.{played}
-use Rattle.script_net.specs.Playing.{Playing, unplayed, IsLater}
+use Rattle.script_net.specs.Playing.{Playing, prepared, IsLater}
 use Rattle.script_net.specs.Failing.{IsCalm, is_failure, NoneFailed}
 use Rattle.script_net.proofs.Calm.{calm_never_fails}
 use Rattle.server_model.specs.Site.{Site}
@@ -53,8 +53,8 @@ calm_cause ending.GatewayCut deeds sound cause = absurd cause
 calm_cause ending.Gate deeds sound cause = absurd cause
 
 -- a run over a net that began with calm steps
-pub calm_run : (site : Site) (tree : Tree) (left : Asked) (steps : List Step) (a b : Playing) → a ≡ unplayed steps → IsLater a b → IsCalm steps → Served site tree left b.game.trace → AllEndCalmly b.game.trace
-calm_run site tree left steps a b begins later calm served link e is =
-    let same : b.game ≡ played later.calls (unplayed steps).game = later.plays ∙ ap (λ (p : Playing). played later.calls p.game) begins in
-    let none : NoneFailed b.game.trace = subst (λ (g : Game). NoneFailed g.trace) (sym same) (calm_never_fails steps later.calls calm) in
+pub calm_run : (site : Site) (tree : Tree) (left : Asked) (said : Script) (a b : Playing) → a ≡ prepared said → IsLater a b → IsCalm said.steps → Served site tree left b.game.trace → AllEndCalmly b.game.trace
+calm_run site tree left said a b begins later calm served link e is =
+    let same : b.game ≡ played later.calls (prepared said).game = later.plays ∙ ap (λ (p : Playing). played later.calls p.game) begins in
+    let none : NoneFailed b.game.trace = subst (λ (g : Game). NoneFailed g.trace) (sym same) (calm_never_fails said.steps later.calls calm) in
     calm_cause e (own link b.game.trace) (unfailed link b.game.trace none) (served.caused link e is)

@@ -9,16 +9,16 @@ use Rattle.conf_eval.specs.declared.fault.Loaded.{Loaded}
 use Rattle.lt_commands.specs.Loading.{HasSomeConf, IsOnlyConf, LoadSays}
 use Rattle.lt_commands.specs.Reading.{IsOnly, ScriptSays}
 use Rattle.lt_commands.specs.Offline.{PlaySays, ReplaySays, CheckSays, HasSomeScript, IsComplete, IsCompleteLoad}
-use Rattle.lt_script.specs.declared.script.Step.{Step}
 use Rattle.script_net.specs.Steps.{events_left}
-use Rattle.script_net.specs.Playing.{Playing, unplayed, IsLater}
+use Rattle.lt_script.specs.declared.script.Script.{Script}
+use Rattle.script_net.specs.Playing.{Playing, prepared, IsLater}
 use Rattle.script_net.specs.Plays.{Plays, played}
 use Rattle.script_net.specs.Calls.{Game}
 use Rattle.script_net.proofs.Runs.{none_left}
 
--- what a net came to that began with these steps, and where no event is left, is a play of all of them
-pub plays_all : (steps : List Step) (a b : Playing) → a ≡ unplayed steps → IsLater a b → events_left b.game.left ≡ 0 → Plays steps b.game.trace []
-plays_all steps a b begins later none =
+-- what a net came to that began with this script, and where no event is left, is a play of all of them
+pub plays_all : (said : Script) (a b : Playing) → a ≡ prepared said → IsLater a b → events_left b.game.left ≡ 0 → Plays said.steps b.game.trace []
+plays_all said a b begins later none =
     let start_is = ap (λ (p : Playing). p.game) begins in
     record {
       calls = later.calls;

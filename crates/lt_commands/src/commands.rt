@@ -4,13 +4,12 @@ ghost use Rattle.lt_world.specs.Disk.{Disk};
 ghost use Rattle.lt_world.specs.Memory.{no_files, tree_of};
 ghost use Rattle.lt_world.specs.Causes.{Rose};
 ghost use Rattle.script_net.specs.Loads.{planted};
-ghost use Rattle.script_net.specs.Playing.{unplayed, IsLater};
+ghost use Rattle.script_net.specs.Playing.{unplayed, prepared, IsLater};
 ghost use Rattle.script_net.specs.Steps.{events_left};
 ghost use Rattle.script_net.specs.Plays.{Plays};
 ghost use Rattle.script_net.specs.Failing.{IsCalm};
 ghost use Rattle.script_net.specs.Reports.{report_of};
 ghost use Rattle.lt_script.specs.declared.script.Script.{Script};
-ghost use Rattle.lt_script.specs.declared.script.Step.{Step};
 ghost use Rattle.conf_parse.specs.declared.tree.Tree.{Tree};
 ghost use Rattle.conf_parse.specs.Print.{printed};
 ghost use Rattle.server_model.specs.Files.{IsTable, Backs};
@@ -150,8 +149,8 @@ fn play<S: Sink>(
     requires serves { (disk : Disk) → disk.calls ≡ [] → ((file : ℕ) → disk.table file ≡ None) → Serves disk (serving_at server) [] }
     ensures serves { Served server.entry.site (tree_of files.old) (asked_of files.new) net.new.game.trace }
     ensures ends { PlaySays result net.new.last }
-    ensures calm { (steps : List Step) → net.old ≡ unplayed steps → IsCalm steps → AllEndCalmly net.new.game.trace }
-    ensures plays { (steps : List Step) → net.old ≡ unplayed steps → result ≡ Status.Done → Plays steps net.new.game.trace [] }
+    ensures calm { (said : Script) → net.old ≡ prepared said → IsCalm said.steps → AllEndCalmly net.new.game.trace }
+    ensures plays { (said : Script) → net.old ≡ prepared said → result ≡ Status.Done → Plays said.steps net.new.game.trace [] }
     ensures report { S.tells → SinkSays result (report_of net.new.game.trace) (S.bytes sink.old) (S.bytes sink.new) }
     ensures cause { result ≡ Status.SinkFault → Rose (S.faults sink.old) (S.faults sink.new) }
 {

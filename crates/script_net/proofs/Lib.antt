@@ -6,3 +6,4 @@ pub mod Loading
 pub mod Pieces
 pub mod Runs
 pub mod Calm
+pub mod Waits

@@ -1,18 +1,14 @@
 -- What a script that is spelled is loaded with.
-use Rattle.std.proofs.Common.{◌≡◌, ℕ, true, zero, suc, List, [], ◌∷◌, drop, ap, sym, subst, arith}
+use Rattle.std.proofs.Common.{◌≡◌, ℕ, true, zero, suc, List, [], ◌∷◌, sym, subst, arith}
 use Rattle.lt_world.specs.Memory.{is_path}
 use Rattle.lt_script.specs.declared.script.Script.{Script}
 use Rattle.lt_script.specs.declared.script.ScriptFile.{ScriptFile}
 use Rattle.lt_script.specs.declared.script.ScriptFile.TheVariants as file
-use Rattle.lt_script.specs.declared.script.Step.{Step}
 use Rattle.lt_script.specs.declared.lines.Line.{Line}
-use Rattle.lt_script.specs.declared.lines.Line.TheVariants.{Skip, File, Step as StepLine}
+use Rattle.lt_script.specs.declared.lines.Line.TheVariants.{Skip, File, Fault, Step as StepLine}
 use Rattle.lt_script.specs.Grammar.{IsLine}
 use Rattle.lt_script.specs.Texts.{AreLines, gathered, Spells}
 use Rattle.script_net.specs.Loads.{path_of, AreRooted}
-use Rattle.script_net.specs.Steps.{steps_from}
-use Rattle.script_net.specs.Playing.{Playing, unplayed}
-use Rattle.script_net.proofs.Turning.{rest_none}
 
 rooted_file : (f : ScriptFile) (line : List ℕ) → IsLine (File f) line → is_path (path_of f) ≡ true
 rooted_file (file.Bytes path time text) line is = is.rooted
@@ -28,15 +24,9 @@ gathered_rooted [] [] each = λ k other below. absurd (omega arith)
 gathered_rooted [] (item ∷ items) each = absurd each
 gathered_rooted (line ∷ lines) [] each = absurd each
 gathered_rooted (line ∷ lines) (Skip ∷ items) each = gathered_rooted lines items each.1
+gathered_rooted (line ∷ lines) (Fault fault ∷ items) each = gathered_rooted lines items each.1
 gathered_rooted (line ∷ lines) (StepLine step ∷ items) each = gathered_rooted lines items each.1
 gathered_rooted (line ∷ lines) (File f ∷ items) each = rooted_more f (gathered items).files (rooted_file f line each.0) (gathered_rooted lines items each.1)
 
 pub spelled_rooted : (bytes : List ℕ) (script : Script) → Spells bytes script → AreRooted script.files
 spelled_rooted bytes script spells = subst (λ (s : Script). AreRooted s.files) (sym spells.gives) (gathered_rooted spells.lines spells.items spells.each)
-
--- a new net with other steps
-pub loaded : (a : Playing) (steps : List Step) → a ≡ unplayed []
-    → record { script = steps; game = record { left = steps_from 0 (drop 0 steps); sides = a.game.sides; taker = a.game.taker; trace = a.game.trace }; faults = a.faults; last = a.last; calls = a.calls; room = a.room } ≡ unplayed steps
-loaded a steps new =
-    subst (λ (n : Playing). record { script = steps; game = record { left = steps_from 0 (drop 0 steps); sides = n.game.sides; taker = n.game.taker; trace = n.game.trace }; faults = n.faults; last = n.last; calls = n.calls; room = n.room } ≡ unplayed steps) (sym new)
-    (ap (λ (left : List Step). let net : Playing = record { script = steps; game = record { left = left; sides = []; taker = (unplayed []).game.taker; trace = [] }; faults = 0; last = (unplayed []).last; calls = 0; room = 0 } in net) (rest_none steps))

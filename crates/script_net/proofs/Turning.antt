@@ -249,20 +249,21 @@ after_left (Connects owner to) game = le_refl (events_left game.left)
 after_left (Closes link ending) game = le_refl (events_left game.left)
 
 -- what some call makes of a net is later
-pub by_call : (call : Call) (a b : Playing) → b.script ≡ a.script → b.game ≡ after call a.game → a.faults ≤ b.faults → IsLater a b
-by_call call a b same made more = record {
+pub by_call : (call : Call) (a b : Playing) → b.script ≡ a.script → b.game ≡ after call a.game → b.waited ≡ a.waited → a.faults ≤ b.faults → IsLater a b
+by_call call a b same made waited more = record {
   same = same;
   calls = call ∷ [];
   plays = made;
+  waited = waited;
   faults = more;
   left = omega (arith, ap (λ (g : Game). events_left g.left) made, after_left call a.game);
 }
 
 -- and so is what an answer of `next` makes of it
-pub turned_later : (event : Event) (a b : Playing) → b.script ≡ a.script → Turns event a.game b.game → b.faults ≡ a.faults → IsLater a b
-turned_later NoMemory a b same turns kept = record { same = same; calls = []; plays = turns; faults = omega (arith, kept); left = omega (arith, ap (λ (g : Game). events_left g.left) turns) }
-turned_later (Arrived link peer local) a b same turns kept = by_call Next a b same turns.1 (omega (arith, kept))
-turned_later (Readable link) a b same turns kept = by_call Next a b same turns.1 (omega (arith, kept))
-turned_later (Writable link) a b same turns kept = by_call Next a b same turns.1 (omega (arith, kept))
-turned_later Idle a b same turns kept = by_call Next a b same turns.1 (omega (arith, kept))
-turned_later Over a b same turns kept = by_call Next a b same turns.1 (omega (arith, kept))
+pub turned_later : (event : Event) (a b : Playing) → b.script ≡ a.script → Turns event a.game b.game → b.waited ≡ a.waited → b.faults ≡ a.faults → IsLater a b
+turned_later NoMemory a b same turns waited kept = record { same = same; calls = []; plays = turns; waited = waited; faults = omega (arith, kept); left = omega (arith, ap (λ (g : Game). events_left g.left) turns) }
+turned_later (Arrived link peer local) a b same turns waited kept = by_call Next a b same turns.1 waited (omega (arith, kept))
+turned_later (Readable link) a b same turns waited kept = by_call Next a b same turns.1 waited (omega (arith, kept))
+turned_later (Writable link) a b same turns waited kept = by_call Next a b same turns.1 waited (omega (arith, kept))
+turned_later Idle a b same turns waited kept = by_call Next a b same turns.1 waited (omega (arith, kept))
+turned_later Over a b same turns waited kept = by_call Next a b same turns.1 waited (omega (arith, kept))

@@ -4,6 +4,7 @@ use Rattle.std.proofs.Common.{refl, ◌∙◌, ap, sym, le_refl, le_trans}
 use Rattle.script_net.specs.Steps.{events_left}
 use Rattle.script_net.specs.Calls.{Game, Call, after}
 use Rattle.script_net.specs.Plays.{played}
+use Rattle.script_net.specs.Waited.{Waited}
 use Rattle.script_net.specs.Playing.{Playing, IsLater}
 
 -- calls after calls are calls
@@ -13,7 +14,7 @@ played-append (call ∷ more) calls game = ap (after call) (played-append more c
 
 -- a net is later than itself
 pub IsLater-same : (a : Playing) → IsLater a a
-IsLater-same a = record { same = refl; calls = []; plays = refl; faults = le_refl a.faults; left = le_refl (events_left a.game.left) }
+IsLater-same a = record { same = refl; calls = []; plays = refl; waited = refl; faults = le_refl a.faults; left = le_refl (events_left a.game.left) }
 
 -- what is later than something later is later
 pub IsLater-more : (a b c : Playing) → IsLater a b → IsLater b c → IsLater a c
@@ -21,6 +22,7 @@ IsLater-more a b c ab bc = record {
   same = bc.same ∙ ab.same;
   calls = bc.calls ++ ab.calls;
   plays = bc.plays ∙ ap (λ (g : Game). played bc.calls g) ab.plays ∙ sym (played-append bc.calls ab.calls a.game);
+  waited = bc.waited ∙ ab.waited;
   faults = le_trans ab.faults bc.faults;
   left = le_trans bc.left ab.left;
 }
@@ -28,6 +30,10 @@ IsLater-more a b c ab bc = record {
 -- the laws that the trait asks for
 pub IsLater-faults : (a b : Playing) → IsLater a b → a.faults ≤ b.faults
 IsLater-faults a b later = later.faults
+
+-- no call of `listen` or `wait` is made
+pub IsLater-waits : (a b : Playing) → IsLater a b → b.waited.faults ≡ a.waited.faults
+IsLater-waits a b later = ap (λ (w : Waited). w.faults) later.waited
 
 -- and no more events are left
 pub IsLater-left : (a b : Playing) → IsLater a b → events_left b.game.left ≤ events_left a.game.left

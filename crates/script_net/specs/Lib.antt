@@ -3,6 +3,7 @@ pub mod Sides
 pub mod Steps
 pub mod Calls
 pub mod Plays
+pub mod Waited
 pub mod Playing
 pub mod Failing
 pub mod LinksView
@@ -12,6 +13,7 @@ pub mod Noted
 pub mod Notes
 pub mod NetView
 pub mod Later
+pub mod Since
 pub mod Loads
 pub mod Reports
 pub mod Laws

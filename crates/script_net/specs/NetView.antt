@@ -10,6 +10,7 @@ abbrev pub playing_of : Inside → Playing
 playing_of a = record {
   script = a.steps;
   game = record { left = steps_from a.played (drop a.at a.steps); sides = a.links.sides; taker = a.taker; trace = a.links.trace };
+  waited = a.waiting;
   faults = a.faults;
   last = a.last;
   calls = a.links.calls;

@@ -1,9 +1,19 @@
 //! Laws of scripts and of the nets that play them.
-ghost use Rattle.script_net.specs.Laws.{LaterPlays, LaterGrows, GivenIsRead, CalmNeverFails, EachHasItsLine, NoneLeft};
+ghost use Rattle.script_net.specs.Laws.{LaterPlays, SincePlays, UnplannedNeverFail, LaterGrows, GivenIsRead, CalmNeverFails, EachHasItsLine, NoneLeft};
 
 /// What comes later than a net that was just loaded has a trace that its script plays.
 pub fn what_is_later_is_played()
     ensures { LaterPlays }
+{}
+
+/// So does what came since, by calls of `listen` and `wait` as well.
+pub fn what_came_since_is_played()
+    ensures { SincePlays }
+{}
+
+/// Where the script plans no fault of `listen` and of `wait`, none of them fails.
+pub fn an_unplanned_wait_never_fails()
+    ensures { UnplannedNeverFail }
 {}
 
 /// A later net takes back nothing, and has no more events left.

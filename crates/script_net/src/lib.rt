@@ -14,7 +14,9 @@ mod port;
 mod ports;
 mod reporting;
 mod steps;
+mod waiting;
 mod writing;
 
+pub use load::plan_files;
 pub use net::{ScriptNet, report};
 pub use writing::write_all;

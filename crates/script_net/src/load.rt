@@ -1,12 +1,12 @@
 //! A script is put where it plays: its files and directories into memory, its steps into a net.
 ghost use Rattle.std.specs.Prelude.{◌≡◌, true, OnOk, IfOk};
 ghost use Rattle.lt_world.specs.Memory.{tree_of, is_path};
-ghost use Rattle.script_net.specs.Loads.{path_of, with_file, planted, AreRooted};
+ghost use Rattle.script_net.specs.Loads.{path_of, with_file, planted, AreRooted, with_fault, faulted};
 
 use crate::letters::letters;
 use lt_bytes::{List, NoMemory, Text};
-use lt_script::{ScriptFile, Step};
-use lt_world::MemFiles;
+use lt_script::{FaultCall, ScriptFault, ScriptFile, Step};
+use lt_world::{FileCall, MemFiles};
 use std::alloc::Global;
 
 /// Adds the files of a script.
@@ -36,6 +36,39 @@ fn plant_one(alloc: Global, file: &ScriptFile, files: &mut MemFiles) -> Result<(
         }
         ScriptFile::Dir { path } => files.add_dir(path.bytes()),
     }
+}
+
+/// Plans the faults of a script that are of files: of a path that is looked up, and of a file that is opened or read.
+/// Where memory is wanted, some of them may be planned.
+pub fn plan_files(faults: &[ScriptFault], files: &mut MemFiles) -> Result<(), NoMemory>
+    ensures { OnOk result (files.new ≡ faulted faults.now files.old) }
+{
+    for fault in faults {
+        plan_one(*fault, files)?;
+    }
+    Ok(())
+}
+
+fn plan_one(fault: ScriptFault, files: &mut MemFiles) -> Result<(), NoMemory>
+    ensures { OnOk result (files.new ≡ with_fault fault.call fault.nth files.old) }
+{
+    match fault.call {
+        FaultCall::Find => files.plan(FileCall::Find, fault.nth),
+        FaultCall::Open => files.plan(FileCall::Open, fault.nth),
+        FaultCall::File => files.plan(FileCall::Read, fault.nth),
+        _ => Ok(()),
+    }
+}
+
+/// A copy of faults.
+pub fn copy_faults(alloc: Global, faults: &[ScriptFault]) -> Result<List<ScriptFault>, NoMemory>
+    ensures { IfOk result (λ copy. copy ≡ faults.now) }
+{
+    let mut copy = List::new(alloc);
+    for fault in faults {
+        copy.push(*fault)?;
+    }
+    Ok(copy)
 }
 
 /// A copy of steps.

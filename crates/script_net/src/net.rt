@@ -5,20 +5,24 @@ ghost use Rattle.lt_world.specs.Answers.{event_tells, kind_of, IsFresh, IsNumber
 ghost use Rattle.lt_world.specs.Causes.{Rose, GotCause, TookCause, DialCause};
 ghost use Rattle.script_net.specs.Calls.{after, counted, Reads, Writes, Connects, Closes, Turns};
 ghost use Rattle.script_net.specs.Steps.{events_left};
-ghost use Rattle.script_net.specs.Playing.{unplayed, IsLater};
+ghost use Rattle.script_net.specs.Playing.{unplayed, prepared, IsLater};
+ghost use Rattle.script_net.specs.Waited.{plans_listen, plans_wait, FailsAs};
+ghost use Rattle.script_net.specs.Since.{after_listen, after_wait, IsSince};
 ghost use Rattle.lt_script.specs.Texts.{Spells};
 ghost use Rattle.script_net.specs.Loads.{planted};
 ghost use Rattle.script_net.specs.Reports.{Writes as Wrote, report_of};
 ghost use Rattle.lt_world.specs.Memory.{tree_of};
 
 use crate::links::Links;
-use crate::load::{copy_steps, plant};
+use crate::load::{copy_faults, copy_steps, plant};
 use crate::reporting::write_report;
 use crate::steps::{ROOM, Taker, affect, allowed, due_from, spend, taker_of};
+use crate::waiting::{Waiting, count};
 use lt_bytes::{List, NoMemory};
 use lt_script::{Script, Step};
 use lt_world::{
     Address, Dialled, Ending, Event, Fault, Got, Link, MemFiles, Net, NextKind, Owner, Sink, Took,
+    Waits,
 };
 use std::alloc::Global;
 use std::marker::Model;
@@ -34,6 +38,7 @@ pub struct ScriptNet {
     at: usize,
     played: u32,
     links: Links,
+    waiting: Waiting,
     taker: Option<Taker>,
     room: usize,
     faults: u64,
@@ -63,6 +68,7 @@ impl ScriptNet {
             at: 0,
             played: 0,
             links: Links::new(alloc),
+            waiting: Waiting::new(List::new(alloc)),
             taker: None,
             room: 0,
             faults: 0,
@@ -70,19 +76,22 @@ impl ScriptNet {
         }
     }
 
-    /// Takes the steps of a script, and puts its files where they are found. Where memory is wanted, some of the files
-    /// may be there, and the net stands as it was.
+    /// Takes the steps of a script and the faults that are of a net, and puts its files where they are found. The faults
+    /// that are of files are `plan_files`'s. Where memory is wanted, some of the files may be there, and the net stands as
+    /// it was.
     pub fn load(&mut self, script: &Script, files: &mut MemFiles) -> Result<(), NoMemory>
         requires new { self.old ≡ unplayed [] }
         requires spelled { (bytes : List ℕ) × Spells bytes script.now }
-        ensures plays { OnOk result (self.new ≡ unplayed script.now.steps) }
+        ensures plays { OnOk result (self.new ≡ prepared script.now) }
         ensures tree { OnOk result (tree_of files.new ≡ planted script.now.files (tree_of files.old)) }
         ensures rest { files.new ≡ record files.old { places = files.new.places } }
         ensures err { OnErr result (self.new ≡ self.old) }
         ensures unasked { self.new.last ≡ self.old.last }
     {
         plant(self.alloc, script.files.as_slice(), files)?;
+        let plan = copy_faults(self.alloc, script.faults.as_slice())?;
         self.steps = copy_steps(self.alloc, script.steps.as_slice())?;
+        self.waiting = Waiting::new(plan);
         self.at = 0;
         self.played = 0;
         Ok(())
@@ -94,6 +103,7 @@ impl ScriptNet {
         ensures script { self.new.script ≡ self.old.script }
         ensures last { self.new.last ≡ kind_of result }
         ensures faults { self.new.faults ≡ self.old.faults }
+        ensures waited { self.new.waited ≡ self.old.waited }
         ensures calls { OnEvent result (1024 ≤ self.new.calls) }
         ensures room { OnEvent result (4096 ≤ self.new.room) }
         ensures fresh { names (length self.old.game.sides) self.old.game.trace ≡ false }
@@ -166,8 +176,7 @@ fn count_read(got: Got, faults: u64) -> u64
 
 impl Net for ScriptNet {
     ghost use Rattle.script_net.specs.Playing.{Playing};
-    ghost use Rattle.std.proofs.Common.{refl};
-    ghost use Rattle.script_net.specs.Later.{IsLater-same, IsLater-more, IsLater-faults, IsLater-left};
+    ghost use Rattle.script_net.specs.Later.{IsLater-same, IsLater-more, IsLater-faults, IsLater-waits, IsLater-left};
 
     ghost tells = { Unit {0} };
 
@@ -175,7 +184,7 @@ impl Net for ScriptNet {
 
     ghost faults = { λ net. net.faults };
 
-    ghost wait_faults = { λ net. 0 };
+    ghost wait_faults = { λ net. net.waited.faults };
 
     ghost last = { λ net. net.last };
 
@@ -197,7 +206,7 @@ impl Net for ScriptNet {
 
     ghost later_faults = { IsLater-faults };
 
-    ghost later_wait_faults = { λ a b later. refl };
+    ghost later_wait_faults = { IsLater-waits };
 
     ghost later_left = { λ a b ends later. IsLater-left a b later };
 
@@ -211,6 +220,7 @@ impl Net for ScriptNet {
         ensures calls { OnEvent result (1024 ≤ self.new.calls) }
         ensures room { OnEvent result (4096 ≤ self.new.room) }
         ensures faults { self.old.faults ≤ self.new.faults }
+        ensures wait_faults { self.new.waited.faults ≡ self.old.waited.faults }
         ensures later { IsLater self.old self.new }
         ensures turns { Turns result self.old.game self.new.game }
         ensures kept { self.new.faults ≡ self.old.faults }
@@ -227,6 +237,7 @@ impl Net for ScriptNet {
         ensures within { GotWithin result (length buf.new) }
         ensures cause { GotCause result self.old.faults self.new.faults }
         ensures faults { self.old.faults ≤ self.new.faults }
+        ensures wait_faults { self.new.waited.faults ≡ self.old.waited.faults }
         ensures links { length self.new.game.sides ≡ length self.old.game.sides }
         ensures last { self.new.last ≡ self.old.last }
         ensures left { Unit {0} → events_left self.new.game.left ≤ events_left self.old.game.left }
@@ -250,6 +261,7 @@ impl Net for ScriptNet {
         ensures within { TookWithin result (length bytes.now) }
         ensures cause { TookCause result self.old.faults self.new.faults }
         ensures faults { self.old.faults ≤ self.new.faults }
+        ensures wait_faults { self.new.waited.faults ≡ self.old.waited.faults }
         ensures links { length self.new.game.sides ≡ length self.old.game.sides }
         ensures last { self.new.last ≡ self.old.last }
         ensures left { Unit {0} → events_left self.new.game.left ≤ events_left self.old.game.left }
@@ -282,6 +294,7 @@ impl Net for ScriptNet {
         ensures links { IsNumberedDial result (length self.old.game.sides) (length self.new.game.sides) }
         ensures cause { DialCause result self.old.faults self.new.faults }
         ensures faults { self.old.faults ≤ self.new.faults }
+        ensures wait_faults { self.new.waited.faults ≡ self.old.waited.faults }
         ensures last { self.new.last ≡ self.old.last }
         ensures left { Unit {0} → events_left self.new.game.left ≤ events_left self.old.game.left }
         ensures calls { self.old.calls ≤ self.new.calls + 1 }
@@ -300,6 +313,7 @@ impl Net for ScriptNet {
         requires calls { 0 < self.old.calls }
         ensures trace { Unit {0} → self.new.game.trace ≡ said link.0 (closed ending ∷ []) self.old.game.trace }
         ensures faults { self.old.faults ≤ self.new.faults }
+        ensures wait_faults { self.new.waited.faults ≡ self.old.waited.faults }
         ensures links { length self.new.game.sides ≡ length self.old.game.sides }
         ensures last { self.new.last ≡ self.old.last }
         ensures left { Unit {0} → events_left self.new.game.left ≤ events_left self.old.game.left }
@@ -310,5 +324,65 @@ impl Net for ScriptNet {
         ensures kept { self.new.faults ≡ self.old.faults }
     {
         self.links.close(link.0, ending);
+    }
+}
+
+impl Waits for ScriptNet {
+    ghost use Rattle.script_net.specs.Since.{IsSince-later, IsSince-more, IsSince-faults, IsSince-waits, IsSince-left};
+
+    ghost since = { IsSince };
+
+    ghost later_since = { IsSince-later };
+
+    ghost since_since = { IsSince-more };
+
+    ghost since_faults = { IsSince-faults };
+
+    ghost since_wait_faults = { IsSince-waits };
+
+    ghost since_left = { λ a b ends since. IsSince-left a b since };
+
+    /// Whatever the address is, the clients of the script arrive.
+    fn listen(&mut self, at: Address) -> Result<(), Fault>
+        ensures cause { OnErr result (Rose self.old.faults self.new.faults) }
+        ensures wait_cause { OnErr result (Rose self.old.waited.faults self.new.waited.faults) }
+        ensures faults { self.old.faults ≤ self.new.faults }
+        ensures wait_faults { self.old.waited.faults ≤ self.new.waited.faults }
+        ensures wait_kept { OnOk result (self.new.waited.faults ≡ self.old.waited.faults) }
+        ensures trace { Unit {0} → self.new.game.trace ≡ self.old.game.trace }
+        ensures links { length self.new.game.sides ≡ length self.old.game.sides }
+        ensures last { self.new.last ≡ self.old.last }
+        ensures left { Unit {0} → events_left self.new.game.left ≤ events_left self.old.game.left }
+        ensures calls { self.old.calls ≤ self.new.calls }
+        ensures room { self.old.room ≤ self.new.room }
+        ensures since { IsSince self.old self.new }
+        ensures becomes { self.new ≡ after_listen result self.old }
+        ensures planned { FailsAs result (plans_listen self.old.waited.listens self.old.waited.plan) }
+    {
+        let answer = self.waiting.listen();
+        self.faults = count(answer, self.faults);
+        answer
+    }
+
+    /// The next line is played when `next` is called.
+    fn wait(&mut self) -> Result<(), Fault>
+        ensures cause { OnErr result (Rose self.old.faults self.new.faults) }
+        ensures wait_cause { OnErr result (Rose self.old.waited.faults self.new.waited.faults) }
+        ensures faults { self.old.faults ≤ self.new.faults }
+        ensures wait_faults { self.old.waited.faults ≤ self.new.waited.faults }
+        ensures wait_kept { OnOk result (self.new.waited.faults ≡ self.old.waited.faults) }
+        ensures trace { Unit {0} → self.new.game.trace ≡ self.old.game.trace }
+        ensures links { length self.new.game.sides ≡ length self.old.game.sides }
+        ensures last { self.new.last ≡ self.old.last }
+        ensures left { Unit {0} → events_left self.new.game.left ≤ events_left self.old.game.left }
+        ensures calls { self.old.calls ≤ self.new.calls }
+        ensures room { self.old.room ≤ self.new.room }
+        ensures since { IsSince self.old self.new }
+        ensures becomes { self.new ≡ after_wait result self.old }
+        ensures planned { FailsAs result (plans_wait self.old.waited.waits self.old.waited.plan) }
+    {
+        let answer = self.waiting.wait();
+        self.faults = count(answer, self.faults);
+        answer
     }
 }

@@ -4,9 +4,10 @@ ghost use Rattle.std.specs.Prelude.{◌<◌, ◌≤◌, length};
 use lt_bytes::{NoMemory, Text};
 use lt_script::{ScriptError, parse_script};
 use lt_world::{
-    Address, Dialled, Ending, Event, Files, Found, Got, Link, MemFiles, MemSink, Net, Owner, Took,
+    Address, Dialled, Ending, Event, Fault, Files, Found, Got, Link, MemFiles, MemSink, Net, Owner,
+    Took, Waits,
 };
-use script_net::{ScriptNet, report};
+use script_net::{ScriptNet, plan_files, report};
 use std::alloc::Global;
 use std::test::Fail;
 
@@ -236,6 +237,35 @@ fn a_connect_fails(rt: HostRuntime) -> Result<(), Fail> {
     {
         assert_eq!(rt; net.connect(owner, to), Dialled::Failed);
     }
+    Ok(())
+}
+
+#[test]
+fn listening_and_waiting_fail_as_planned(rt: HostRuntime) -> Result<(), Fail> {
+    let mut files = MemFiles::new(rt.alloc());
+    let lines = b"fault wait 1\nfault listen 0\nfault find 0\nfault wait 1\n";
+    let mut net = loaded(rt.alloc(), lines, &mut files)?;
+    let at = Address {
+        ip: [0, 0, 0, 0],
+        port: 80,
+    };
+    assert_eq!(rt; (net.listen(at), net.listen(at)), (Err(Fault), Ok(())));
+    assert_eq!(rt;
+        (net.wait(), net.wait(), net.wait()),
+        (Ok(()), Err(Fault), Ok(()))
+    );
+    Ok(())
+}
+
+#[test]
+fn a_script_plans_the_faults_of_files(rt: HostRuntime) -> Result<(), Fail> {
+    let mut files = MemFiles::new(rt.alloc());
+    let text = b"lighttpd-script 1\nfault find 1\nfault wait 0\n";
+    let script = parse_script(rt.alloc(), text)?;
+    plan_files(script.faults.as_slice(), &mut files)?;
+    assert_eq!(rt; found(&mut files, b"/a"), Found::Missing);
+    assert_eq!(rt; found(&mut files, b"/a"), Found::Failed);
+    assert_eq!(rt; found(&mut files, b"/a"), Found::Missing);
     Ok(())
 }
 

@@ -1,7 +1,7 @@
 use Rattle.std.proofs.Common.{rules, ◌≡◌, ℕ, List, ap, sym, subst, ◌∙◌}
 use Rattle.std.specs.Prelude.{Option, Err}
 use Rattle.lt_script.specs.declared.script.Script.{Script}
-use Rattle.script_net.specs.Playing.{unplayed, Playing}
+use Rattle.script_net.specs.Playing.{prepared, Playing}
 use Rattle.lt_world.specs.Memory.{Stored, tree_of, no_files}
 use Rattle.script_net.specs.Loads.{planted}
 use Rattle.conf_eval.specs.declared.fault.Loaded.{Loaded}
@@ -72,18 +72,18 @@ returns-then-is_err-clause-spelled g c told loaded said has held =
 
 pub returns-clause-serves : goal.returns-clause-serves
 returns-clause-serves g c =
-    let loaded : c.load.new.self ≡ unplayed c.in-Ok-read_script.script.steps = search rules in
+    let loaded : c.load.new.self ≡ prepared c.in-Ok-read_script.script = search rules in
     unserved_some status.NoMemory _ _ (ap asked_of c.load.ensures.rest ∙ ap asked_of c.requires.files) (ap (λ (p : Playing). p.game.trace) loaded)
 
 pub returns-clause-spelled : goal.returns-clause-spelled
 returns-clause-spelled g c told loaded said has held =
-    let begun : c.load.new.self ≡ unplayed c.in-Ok-read_script.script.steps = search rules in
+    let begun : c.load.new.self ≡ prepared c.in-Ok-read_script.script = search rules in
     unrun loaded said status.NoMemory _ _ (ap asked_of c.load.ensures.rest ∙ ap asked_of c.requires.files) (ap (λ (p : Playing). p.game.trace) begun)
     (λ done. absurd (cc done))
 
 pub returns-in-Ok-new-clause-serves : goal.returns-in-Ok-new-clause-serves
 returns-in-Ok-new-clause-serves g c =
-    let begun : c.load.new.self ≡ unplayed c.in-Ok-read_script.script.steps = search rules in
+    let begun : c.load.new.self ≡ prepared c.in-Ok-read_script.script = search rules in
     let grown : tree_of c.load.new.files ≡ planted c.in-Ok-read_script.script.files (tree_of c.args.files.now) = search rules in
     let tree_is : tree_of c.load.new.files ≡ planted c.in-Ok-read_script.script.files (tree_of no_files) =
     grown ∙ ap (λ (s : Stored). planted c.in-Ok-read_script.script.files (tree_of s)) c.requires.files in
@@ -95,8 +95,8 @@ returns-in-Ok-new-clause-serves g c =
       said = c.in-Ok-read_script.script;
       serves = record {
         served = served;
-        calm = c.play.ensures.calm c.in-Ok-read_script.script.steps begun;
-        plays = c.play.ensures.plays c.in-Ok-read_script.script.steps begun;
+        calm = c.play.ensures.calm c.in-Ok-read_script.script begun;
+        plays = c.play.ensures.plays c.in-Ok-read_script.script begun;
       };
     }
 
@@ -104,7 +104,7 @@ pub returns-in-Ok-new-clause-spelled : goal.returns-in-Ok-new-clause-spelled
 returns-in-Ok-new-clause-spelled g c told loaded said has held =
     let kept : g.X.Texts.texts c.load_conf.new.texts c.args.script.now ≡ g.X.Texts.texts c.args.texts.now c.args.script.now = ap (λ (texts : List ℕ → Option (List ℕ)). texts c.args.script.now) (c.load_conf.ensures.texts told) in
     let same : c.in-Ok-read_script.script ≡ said = c.in-Ok-read_script.ensures.only told said (held.0, kept ∙ held.1, held.2, held.3) in
-    let begun : c.load.new.self ≡ unplayed c.in-Ok-read_script.script.steps = search rules in
+    let begun : c.load.new.self ≡ prepared c.in-Ok-read_script.script = search rules in
     let grown : tree_of c.load.new.files ≡ planted c.in-Ok-read_script.script.files (tree_of c.args.files.now) = search rules in
     let tree_is : tree_of c.load.new.files ≡ planted c.in-Ok-read_script.script.files (tree_of no_files) =
     grown ∙ ap (λ (s : Stored). planted c.in-Ok-read_script.script.files (tree_of s)) c.requires.files in
@@ -112,8 +112,8 @@ returns-in-Ok-new-clause-spelled g c told loaded said has held =
     c.play.ensures.serves c.in-Ok-new.ensures.site tree_is in
     let by : ServesBy c.in-Ok.loaded c.in-Ok-read_script.script c.play.result (asked_of c.play.new.files) c.play.new.net.game.trace = record {
       served = served;
-      calm = c.play.ensures.calm c.in-Ok-read_script.script.steps begun;
-      plays = c.play.ensures.plays c.in-Ok-read_script.script.steps begun;
+      calm = c.play.ensures.calm c.in-Ok-read_script.script begun;
+      plays = c.play.ensures.plays c.in-Ok-read_script.script begun;
     } in
     served_for c.in-Ok.loaded loaded c.in-Ok-read_script.script said c.play.result _ _ by (c.in-Ok.ensures.only told loaded has) same
 

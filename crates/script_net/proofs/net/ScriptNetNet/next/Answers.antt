@@ -14,4 +14,4 @@ pub returns-clause-left : goal.returns-clause-left
 returns-clause-left c = λ _. turned_left c.advance.result _ _ c.advance.ensures.turns
 
 pub returns-clause-later : goal.returns-clause-later
-returns-clause-later c = turned_later c.advance.result _ _ c.advance.ensures.script c.advance.ensures.turns c.advance.ensures.faults
+returns-clause-later c = turned_later c.advance.result _ _ c.advance.ensures.script c.advance.ensures.turns c.advance.ensures.waited c.advance.ensures.faults
