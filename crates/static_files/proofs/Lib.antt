@@ -2,3 +2,5 @@ pub mod Calendar
 pub mod Escaping
 pub mod Placing
 pub mod RangeLaws
+pub mod TypeLookup
+pub mod TypeSlots

@@ -4,3 +4,5 @@ pub mod Dates
 pub mod Places
 pub mod Locations
 pub mod MediaTypes
+pub mod TypeSlots
+pub mod TypeIndexView

@@ -11,12 +11,14 @@ pub mod laws;
 mod locations;
 mod media_types;
 mod places;
+mod type_index;
 
 pub use byte_ranges::{Range, ranges};
 pub use dates::{fresh, last_modified};
 pub use locations::{is_excluded, location};
 pub use media_types::mime;
 pub use places::{Place, find_file, map_path};
+pub use type_index::TypeIndex;
 
 #[cfg(test)]
 mod tests;

@@ -1,6 +1,6 @@
 //! The media type of a path, by what it ends in.
 ghost use Rattle.std.specs.Prelude.{◌≡◌, length, option_map};
-ghost use Rattle.static_files.specs.MediaTypes.{media_type_of, is_longest, better, mime, type_of};
+ghost use Rattle.static_files.specs.MediaTypes.{media_type_of, is_longest, better, mime, type_of, value_of};
 
 use crate::locations::ends_in;
 use conf_value::{Pair, Value};
@@ -12,12 +12,12 @@ const UNKNOWN: &[u8] = b"application/octet-stream";
 /// What a path ends in, and the type of such files.
 #[derive(Clone, Copy)]
 pub(crate) struct Entry<'a> {
-    key: &'a [u8],
-    value: &'a [u8],
+    pub(crate) key: &'a [u8],
+    pub(crate) value: &'a [u8],
 }
 
 /// A pair with a key and a text as its value; any other counts for nothing.
-fn entry_of<'a>(pair: &'a Pair) -> Option<Entry<'a>>
+pub(crate) fn entry_of<'a>(pair: &'a Pair) -> Option<Entry<'a>>
     ensures { option_map type_of result ≡ media_type_of pair.now }
 {
     let Some(key) = &pair.key else {
@@ -43,7 +43,11 @@ fn is_longest(key: &[u8], others: Option<Entry<'_>>) -> bool
 }
 
 /// An entry that may be, before the longest of those behind it.
-fn better<'a>(path: &[u8], first: Option<Entry<'a>>, others: Option<Entry<'a>>) -> Option<Entry<'a>>
+pub(crate) fn better<'a>(
+    path: &[u8],
+    first: Option<Entry<'a>>,
+    others: Option<Entry<'a>>,
+) -> Option<Entry<'a>>
     ensures { option_map type_of result ≡ better path.now (option_map type_of first.entry) (option_map type_of others.entry) }
 {
     let Some(entry) = first else {
@@ -53,6 +57,15 @@ fn better<'a>(path: &[u8], first: Option<Entry<'a>>, others: Option<Entry<'a>>) 
         Some(entry)
     } else {
         others
+    }
+}
+
+pub(crate) fn value_of<'a>(best: Option<Entry<'a>>) -> &'a [u8]
+    ensures { result.now ≡ value_of (option_map type_of best.entry) }
+{
+    match best {
+        Some(entry) => entry.value,
+        None => UNKNOWN,
     }
 }
 
@@ -68,8 +81,5 @@ pub fn mime<'a>(types: &'a List<Pair>, path: &[u8]) -> &'a [u8]
         at -= 1;
         best = better(path, entry_of(&pairs[at]), best);
     }
-    match best {
-        Some(entry) => entry.value,
-        None => UNKNOWN,
-    }
+    value_of(best)
 }
