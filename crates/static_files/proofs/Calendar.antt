@@ -1,18 +1,16 @@
 -- The calendar, counted: each day lies as many days after 1 January 1970 as its number says.
-use Rattle.std.proofs.Common.{◌≡◌, ℕ, zero, suc, ◌+◌, ◌-◌, ◌*◌, ◌/◌, ◌%◌, ◌<◌, ◌≤◌, Bool, true, false, List, Option, Some, None, if◌then◌else◌, refl, sym, ap, ◌∙◌, inl, ⊎_elim, ◌↔◌, arith}
+use Rattle.std.proofs.Common.{◌≡◌, ℕ, zero, suc, ◌+◌, ◌-◌, ◌/◌, ◌%◌, ◌<◌, ◌≤◌, Bool, true, false, List, Some, None, if◌then◌else◌, refl, sym, ap, ◌∙◌, inl, ⊎_elim, ◌↔◌, arith}
 use Rattle.std.specs.Prelude.{nat_lt, nat_le, option_and_then}
-use Rattle.std.specs.Int.{IsInRange}
 use Rattle.std.proofs.lemmas.Bool.{ltb-true, ltb-false, leb-true, leb-false, le-leb, cases_lt}
 use Rattle.std.proofs.lemmas.Option.{same_Some}
 use Rattle.std.proofs.lemmas.Bool.Decides.{nat_tests}
-use Rattle.httpdate.specs.declared.parts.Parts.{Parts}
 use Rattle.httpdate.specs.declared.date.HttpDate.{HttpDate}
-use Rattle.httpdate.specs.Calendar.{days_in_year, days_in_month, days_of_years, days_of_months, days_from_civil}
+use Rattle.httpdate.specs.Calendar.{days_in_year, days_in_month, days_of_years, days_of_months}
 use Rattle.httpdate.specs.Date.{date_text, unix_secs, parse_secs, valid_secs}
 use Rattle.httpdate.specs.Reader.{parse}
 use Rattle.httpdate.specs.Text.{imf_fixdate}
-use Rattle.httpdate.specs.Valid.{IsValid, is_valid, parts_secs}
-use Rattle.httpdate.proofs.CalendarLemmas.{days_of_months_more, days_of_months_all, days_of_months_closed, days_of_years_closed, days_from_civil_bound}
+use Rattle.httpdate.specs.Valid.{IsValid, parts_secs}
+use Rattle.httpdate.proofs.CalendarLemmas.{days_of_months_more, days_of_months_all, days_of_years_closed, days_from_civil_bound}
 use Rattle.httpdate.proofs.FormatLemmas.{parse_complete}
 use Rattle.httpdate.proofs.Theorems.{date_text_is}
 use Rattle.httpdate.proofs.ValidLemmas.{is_valid_complete}

@@ -1,5 +1,5 @@
 -- A range that is satisfied lies in the file.
-use Rattle.std.proofs.Common.{◌≡◌, ℕ, ◌+◌, ◌-◌, ◌<◌, ◌≤◌, min, Bool, true, false, List, [], ◌∷◌, length, take, drop, Option, Some, None, if◌then◌else◌, ◌==◌, refl, codes, arith}
+use Rattle.std.proofs.Common.{◌≡◌, ℕ, ◌+◌, ◌-◌, min, Bool, true, false, List, [], ◌∷◌, take, drop, Option, Some, None, if◌then◌else◌, ◌==◌, refl, codes, arith}
 use Rattle.std.specs.Prelude.{nat_le, nat_lt, bytes_eq, position}
 use Rattle.std.proofs.lemmas.Bool.{leb-false, ltb-false, eqb-false}
 use Rattle.static_files.specs.declared.byte_ranges.Range.TheVariants as range

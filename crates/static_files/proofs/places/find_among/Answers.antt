@@ -1,4 +1,4 @@
-use Rattle.std.proofs.Common.{refl, ℕ, List, ◌++◌, Ok, Err, ap, subst, sym, ◌∙◌, arith}
+use Rattle.std.proofs.Common.{refl, ℕ, List, ◌++◌, Ok, Err, ap, subst, ◌∙◌, arith}
 use Rattle.lt_bytes.specs.Memory.{no_memory}
 use Rattle.static_files.specs.declared.places.Place.TheVariants as place
 use Rattle.static_files.specs.declared.places.Tried.TheVariants as tried
