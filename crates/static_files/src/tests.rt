@@ -1,7 +1,11 @@
 //! Answers from RFC 9110, from the rule of leap years, and from lighttpd's documentation.
-use crate::{Range, fresh, is_excluded, last_modified, location, map_path, mime, ranges};
+use crate::{
+    Place, Range, TypeIndex, find_file, fresh, is_excluded, last_modified, location, map_path,
+    mime, ranges,
+};
 use conf_value::{Pair, Value};
-use lt_bytes::{List, Number, Text, read_decimal};
+use lt_bytes::{List, NoMemory, Number, Text, read_decimal};
+use lt_world::{FileCall, Files, MemFiles, Owner};
 use std::alloc::Global;
 use std::test::Fail;
 
@@ -16,6 +20,8 @@ const RANGES: &[u8] = b"\
 299-299 - - 299+1 299+1
 299-300 - - 299+1 299+2
 300-300 - - - 300+1
+299- - - 299+1 299+9701
+300- - - - 300+9700
 1- - - 1+299 1+9999
 -300 * 0+1 0+300 9700+300
 -301 * 0+1 0+300 9699+301
@@ -221,5 +227,52 @@ fn a_media_type_is_that_of_the_longest_end(rt: HostRuntime) -> Result<(), Fail> 
     );
     types.push(pair(rt.alloc(), b"".as_slice(), b"f".as_slice())?)?;
     assert_eq!(rt; mime(&types, b"/html"), b"f".as_slice());
+    let index = TypeIndex::new(rt.alloc(), types.as_slice())?;
+    assert_eq!(rt; index.mime(b"/x.tar.gz"), b"b".as_slice());
+    assert_eq!(rt; index.mime(b"/d/Makefile"), b"c".as_slice());
+    assert_eq!(rt; index.mime(b"/.html"), b"d".as_slice());
+    assert_eq!(rt; index.mime(b"/html"), b"f".as_slice());
+    Ok(())
+}
+
+const OWNER: Owner = Owner {
+    conn: 0,
+    request: 0,
+};
+
+/// 200 where a directory leads to this file, else the status that is answered.
+fn led_to<F: Files>(
+    alloc: Global,
+    files: &mut F,
+    index: &List<Text>,
+    path: &[u8],
+    file: &[u8],
+) -> Result<u16, NoMemory> {
+    let physical = map_path(alloc, b"/srv", path)?;
+    match find_file(alloc, files, OWNER, path, physical.bytes(), index) {
+        Ok(Place::File { path, physical: _ }) => Ok(if path.bytes() == file { 200 } else { 0 }),
+        Ok(Place::Status(status)) => Ok(status),
+        Err(NoMemory) => Err(NoMemory),
+    }
+}
+
+/// What two directories lead to, and the first once more.
+fn statuses<F: Files>(alloc: Global, files: &mut F) -> Result<[u16; 3], NoMemory> {
+    let mut index = List::new(alloc);
+    index.push(Text::from_bytes(alloc, b"index.php")?)?;
+    index.push(Text::from_bytes(alloc, b"index.html")?)?;
+    let first = led_to(alloc, files, &index, b"/d/", b"/d/index.html")?;
+    let other = led_to(alloc, files, &index, b"/e/", b"/e/index.html")?;
+    let again = led_to(alloc, files, &index, b"/d/", b"/d/index.html")?;
+    Ok([first, other, again])
+}
+
+#[test]
+fn a_directory_leads_to_its_first_index_name_with_a_file(rt: HostRuntime) -> Result<(), Fail> {
+    let mut files = MemFiles::new(rt.alloc());
+    files.add_dir(b"/srv/d/index.php")?;
+    files.add_file(b"/srv/d/index.html", 0, b"x")?;
+    files.plan(FileCall::Find, 4)?;
+    assert_eq!(rt; statuses(rt.alloc(), &mut files)?, [200, 403, 500]);
     Ok(())
 }
