@@ -1,6 +1,7 @@
 //! A net in memory, which plays a script.
 ghost use Rattle.std.specs.Prelude.{◌≡◌, ℕ, ◌+◌, ◌<◌, ◌≤◌, ◌∷◌, [], List, length, false, OnOk, OnErr};
-ghost use Rattle.lt_world.specs.Trace.{said, names, Close as closed};
+ghost use Rattle.lt_world.specs.Trace.{said, names, own, link_bound, Close as closed};
+ghost use Rattle.lt_world.specs.Acts.{output_of, ending_of};
 ghost use Rattle.lt_world.specs.Answers.{event_tells, kind_of, IsFresh, IsNumbered, OnEvent, UsesEvent, read_act, write_act, dial_act, GotWithin, TookWithin, IsFreshDial, IsNumberedDial};
 ghost use Rattle.lt_world.specs.Causes.{Rose, GotCause, TookCause, DialCause};
 ghost use Rattle.script_net.specs.Calls.{after, counted, Reads, Writes, Connects, Closes, Turns};
@@ -95,6 +96,30 @@ impl ScriptNet {
         self.at = 0;
         self.played = 0;
         Ok(())
+    }
+
+    /// How many links there are; each has a number below it.
+    pub fn link_count(&self) -> usize
+        ensures count { result ≡ length self.now.game.sides }
+        ensures bound { result ≡ link_bound self.now.game.trace }
+    {
+        self.links.len()
+    }
+
+    /// How a link was closed, if it was.
+    pub fn ending(&self, link: usize) -> Option<Ending>
+        requires { link < length self.now.game.sides }
+        ensures ending { result ≡ ending_of (own link self.now.game.trace) }
+    {
+        self.links.ending(link)
+    }
+
+    /// The bytes that a link took.
+    pub fn taken(&self, link: usize) -> &[u8]
+        requires { link < length self.now.game.sides }
+        ensures bytes { result.now ≡ output_of (own link self.now.game.trace) }
+    {
+        self.links.taken(link)
     }
 
     // The next event, or what comes in its place.
