@@ -1,6 +1,7 @@
 pub mod Calls
 pub mod Endings
 pub mod Exits
+pub mod Explaining
 pub mod Fetching
 pub mod Loading
 pub mod Offline

@@ -9,6 +9,7 @@
 
 mod answering;
 mod commands;
+mod explanation;
 mod loading;
 mod printing;
 mod reading;
@@ -19,6 +20,7 @@ mod words;
 
 pub use answering::answer;
 pub use commands::offline;
+pub use explanation::Explanation;
 pub use loading::{CONF, load_conf};
 pub use status::Status;
 pub use warnings::load_warned;
