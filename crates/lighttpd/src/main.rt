@@ -1,12 +1,17 @@
 //! The program: `replay` serves the clients of a script, `-t` checks a configuration, `-p` prints one.
 //! What a call does is `lt_commands`; named texts are `files_disk`'s. Here is the edge of the process: its words,
-//! standard output (`out_sink`), and its end (`ending`), the status's text on standard error and its number.
+//! standard output (`out_sink`), and its end (`ending`), the status's text on standard error and its number; at a
+//! terminal people are told of it in words (`explaining`).
 #![tactic(auto)]
 
 mod ending;
+mod explaining;
+mod named_texts;
 mod out_sink;
 
 use crate::ending::end;
+use crate::explaining::{explain, is_at_terminal};
+use crate::named_texts::NamedTexts;
 use crate::out_sink::OutSink;
 use files_disk::DiskTexts;
 use lt_commands::{Status, answer};
@@ -15,7 +20,7 @@ use std::process::ExitCode;
 use std::{env, io};
 
 fn main(rt: HostRuntime) -> ExitCode {
-    let mut texts = DiskTexts::new(&rt);
+    let mut texts = NamedTexts::new(rt.alloc(), DiskTexts::new(&rt));
     let mut sink = OutSink::new(&rt);
     let status = match words_of(&rt) {
         Ok(words) => answer(rt.alloc(), &words, &mut texts, &mut sink),
@@ -25,7 +30,11 @@ fn main(rt: HostRuntime) -> ExitCode {
             _ => Status::NoMemory,
         },
     };
-    end(&rt, status)
+    let code = end(&rt, status);
+    if is_at_terminal(&rt) {
+        explain(&rt, texts, status);
+    }
+    code
 }
 
 // The words of the call, without the program's name.
