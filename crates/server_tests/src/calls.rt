@@ -1,6 +1,6 @@
 //! The program's calls: the text of each status, and a write that fails in mid-report.
 use conf_eval::{ConfFault, ConfKind};
-use lt_commands::{Status, answer};
+use lt_commands::{Explanation, Status, answer};
 use lt_world::{MemSink, MemTexts};
 use std::alloc::Global;
 use std::test::Fail;
@@ -33,6 +33,25 @@ fn a_status_has_its_number_and_its_text(rt: HostRuntime) -> Result<(), Fail> {
     assert_eq!(rt;
         all.as_bytes(),
         b"\nlighttpd: C17 file 0 line 65\nusage: lighttpd [-D] [-t | -p] -f CONF | replay -f CONF SCRIPT | bench NUMBER\nlighttpd: script line 7\nlighttpd: a text cannot be read\nlighttpd: output failed\nlighttpd: out of memory\nlighttpd: text 1 is missing\n".as_slice()
+    );
+    Ok(())
+}
+
+#[test]
+fn a_fault_is_told_with_its_text_and_its_line(rt: HostRuntime) -> Result<(), Fail> {
+    let explanation = Explanation {
+        status: Status::Conf(ConfFault {
+            kind: ConfKind::Duplicate,
+            file: 0,
+            line: 2,
+        }),
+        name: "lighttpd.conf",
+        subject: "server.document-root",
+    };
+    let text = explanation.to_string(rt.alloc())?;
+    assert_eq!(rt;
+        text.as_bytes(),
+        b"lighttpd.conf:2: server.document-root is set twice in this block".as_slice()
     );
     Ok(())
 }
