@@ -25,6 +25,8 @@ module _ (conf script : List ℕ) (library : Library) (before mid after : List F
   conf_asks status.NoMemory loads = inl loads
   conf_asks (status.Script line) loads = absurd loads.ends
   conf_asks status.Usage loads = absurd loads.ends
+  conf_asks status.ListenFault loads = absurd loads.ends
+  conf_asks status.WaitFault loads = absurd loads.ends
   conf_asks status.Done loads = absurd loads.ends
   conf_asks status.SinkFault loads = absurd loads.ends
 
@@ -45,6 +47,8 @@ module _ (conf script : List ℕ) (library : Library) (before mid after : List F
   script_asks status.NoMemory accepted says (inr text) = inr (inr (both_asked fetch.Text accepted text))
   script_asks (status.Conf fault) accepted says asks = absurd says
   script_asks status.Usage accepted says asks = absurd says
+  script_asks status.ListenFault accepted says asks = absurd says
+  script_asks status.WaitFault accepted says asks = absurd says
   script_asks status.Done accepted says asks = absurd says
   script_asks status.SinkFault accepted says asks = absurd says
 
@@ -59,6 +63,8 @@ module _ (conf script : List ℕ) (library : Library) (before mid after : List F
   play_asks status.NoMemory last ends accepted asked = loaded_asks accepted asked
   play_asks (status.Conf fault) last ends accepted asked = absurd ends
   play_asks status.Usage last ends accepted asked = absurd ends
+  play_asks status.ListenFault last ends accepted asked = absurd ends
+  play_asks status.WaitFault last ends accepted asked = absurd ends
   play_asks (status.Script line) last ends accepted asked = absurd ends
   play_asks status.TextFault last ends accepted asked = absurd ends
   play_asks (status.Missing number) last ends accepted asked = absurd ends
@@ -71,6 +77,8 @@ check_asks status.TextFault conf library before after loads = loads
 check_asks status.NoMemory conf library before after loads = inl loads
 check_asks (status.Script line) conf library before after loads = absurd loads.ends
 check_asks status.Usage conf library before after loads = absurd loads.ends
+check_asks status.ListenFault conf library before after loads = absurd loads.ends
+check_asks status.WaitFault conf library before after loads = absurd loads.ends
 check_asks status.Done conf library before after loads = absurd loads.ends
 check_asks status.SinkFault conf library before after loads = absurd loads.ends
 
@@ -82,5 +90,7 @@ print_asks status.TextFault conf library before after says asks = asks
 print_asks status.NoMemory conf library before after says asks = asks
 print_asks (status.Script line) conf library before after says asks = absurd says
 print_asks status.Usage conf library before after says asks = absurd says
+print_asks status.ListenFault conf library before after says asks = absurd says
+print_asks status.WaitFault conf library before after says asks = absurd says
 print_asks status.Done conf library before after says asks = absurd says
 print_asks status.SinkFault conf library before after says asks = absurd says

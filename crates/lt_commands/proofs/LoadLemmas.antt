@@ -142,5 +142,7 @@ module _ (library : Library) where
   only_conf name loaded has calls (Err status.NoMemory) ends = tt
   only_conf name loaded has calls (Err status.Done) ends = ends
   only_conf name loaded has calls (Err status.Usage) ends = ends
+  only_conf name loaded has calls (Err status.ListenFault) ends = ends
+  only_conf name loaded has calls (Err status.WaitFault) ends = ends
   only_conf name loaded has calls (Err status.SinkFault) ends = ends
   only_conf name loaded has calls (Err (status.Script line)) ends = ends

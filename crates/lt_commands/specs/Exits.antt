@@ -4,7 +4,7 @@ use Rattle.std.specs.Fmt.{decimal}
 use Rattle.conf_eval.specs.declared.fault.ConfKind.{ConfKind}
 use Rattle.conf_eval.specs.declared.fault.ConfKind.TheVariants as kind
 use Rattle.lt_commands.specs.declared.status.Status.{Status}
-use Rattle.lt_commands.specs.declared.status.Status.TheVariants.{Done, Conf, Usage, Script, TextFault, SinkFault, NoMemory, Missing}
+use Rattle.lt_commands.specs.declared.status.Status.TheVariants.{Done, Conf, Usage, Script, TextFault, SinkFault, NoMemory, Missing, ListenFault, WaitFault}
 
 abbrev pub exit_number : Status → ℕ
 exit_number Done = 0
@@ -15,6 +15,8 @@ exit_number TextFault = 4
 exit_number SinkFault = 5
 exit_number NoMemory = 6
 exit_number (Missing text) = 7
+exit_number ListenFault = 8
+exit_number WaitFault = 9
 
 -- the number of a fault of a configuration
 abbrev pub kind_number : ConfKind → ℕ
@@ -46,3 +48,5 @@ status_text TextFault = codes "lighttpd: a text cannot be read"
 status_text SinkFault = codes "lighttpd: output failed"
 status_text NoMemory = codes "lighttpd: out of memory"
 status_text (Missing text) = codes "lighttpd: text " ++ decimal text ++ codes " is missing"
+status_text ListenFault = codes "lighttpd: cannot listen"
+status_text WaitFault = codes "lighttpd: waiting failed"

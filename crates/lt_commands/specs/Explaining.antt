@@ -4,7 +4,7 @@ use Rattle.std.specs.Fmt.{decimal}
 use Rattle.conf_eval.specs.declared.fault.ConfKind.{ConfKind}
 use Rattle.conf_eval.specs.declared.fault.ConfKind.TheVariants as kind
 use Rattle.lt_commands.specs.declared.status.Status.{Status}
-use Rattle.lt_commands.specs.declared.status.Status.TheVariants.{Done, Conf, Usage, Script, TextFault, SinkFault, NoMemory, Missing}
+use Rattle.lt_commands.specs.declared.status.Status.TheVariants.{Done, Conf, Usage, Script, TextFault, SinkFault, NoMemory, Missing, ListenFault, WaitFault}
 
 -- what is wrong with that which a line begins with
 abbrev pub reason : ConfKind → List ℕ
@@ -46,3 +46,5 @@ explained TextFault name subject = name ++ codes ": this text cannot be read"
 explained SinkFault name subject = codes "lighttpd: standard output takes no more"
 explained NoMemory name subject = codes "lighttpd: the system gives no more memory"
 explained (Missing text) name subject = name ++ codes ": there is no such text"
+explained ListenFault name subject = codes "lighttpd: the address is in use, or is none of this machine that the user may take"
+explained WaitFault name subject = codes "lighttpd: the system reports no more events"

@@ -35,6 +35,8 @@ ReplayAsks status.SinkFault conf script library before after = AsksBoth conf scr
 ReplayAsks status.NoMemory conf script library before after =
     LoadsAs (Err status.NoMemory) conf library before after ⊎ (AsksConf conf library before after ⊎ AsksBoth conf script fetch.Text library before after)
 ReplayAsks status.Usage conf script library before after = ⊥
+ReplayAsks status.ListenFault conf script library before after = ⊥
+ReplayAsks status.WaitFault conf script library before after = ⊥
 
 -- what a check asks for: the texts of the configuration
 abbrev pub CheckAsks : Status → List ℕ → Library → List Fetch → List Fetch → Type 0

@@ -45,6 +45,8 @@ ReplaySays status.SinkFault library conf script = HasSomeConf library conf × Ha
 ReplaySays status.TextFault library conf script = Unit {0}
 ReplaySays status.NoMemory library conf script = Unit {0}
 ReplaySays status.Usage library conf script = ⊥
+ReplaySays status.ListenFault library conf script = ⊥
+ReplaySays status.WaitFault library conf script = ⊥
 
 -- a check's status by the texts: it is done where they spell a configuration
 abbrev pub CheckSays : Status → Library → List ℕ → Type 0

@@ -21,6 +21,8 @@ ReadCause (Err status.TextFault) before after = Rose before after
 ReadCause (Err (status.Conf fault)) before after = fault.kind ≡ kind.TextFault → Rose before after
 ReadCause (Err status.Done) before after = ⊥
 ReadCause (Err status.Usage) before after = ⊥
+ReadCause (Err status.ListenFault) before after = ⊥
+ReadCause (Err status.WaitFault) before after = ⊥
 ReadCause (Err status.SinkFault) before after = ⊥
 ReadCause other before after = Unit {0}
 

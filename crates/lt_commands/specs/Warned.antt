@@ -29,6 +29,8 @@ abbrev pub WarnedFaults : Result Loaded Status → ℕ → ℕ → ℕ → ℕ �
 WarnedFaults (Ok loaded) texts_before texts_after sink_before sink_after = Unit {0}
 WarnedFaults (Err status.Done) texts_before texts_after sink_before sink_after = ⊥
 WarnedFaults (Err status.Usage) texts_before texts_after sink_before sink_after = ⊥
+WarnedFaults (Err status.ListenFault) texts_before texts_after sink_before sink_after = ⊥
+WarnedFaults (Err status.WaitFault) texts_before texts_after sink_before sink_after = ⊥
 WarnedFaults (Err answer) texts_before texts_after sink_before sink_after = FaultsSay answer texts_before texts_after sink_before sink_after
 
 -- the sink got these warnings, or the front of them where it failed, and nothing at any other status

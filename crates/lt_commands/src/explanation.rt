@@ -37,6 +37,11 @@ impl fmt::Display for Explanation<'_> {
             Status::SinkFault => write!(f, "lighttpd: standard output takes no more"),
             Status::NoMemory => write!(f, "lighttpd: the system gives no more memory"),
             Status::Missing { .. } => write!(f, "{name}: there is no such text"),
+            Status::ListenFault => write!(
+                f,
+                "lighttpd: the address is in use, or is none of this machine that the user may take"
+            ),
+            Status::WaitFault => write!(f, "lighttpd: the system reports no more events"),
         }
     }
 }

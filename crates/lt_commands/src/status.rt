@@ -24,6 +24,10 @@ pub enum Status {
     NoMemory,
     /// There is no text of this name: text 1 is the configuration, text 2 the script.
     Missing { text: u32 },
+    /// The address could not be listened at.
+    ListenFault,
+    /// The next event could not be waited for.
+    WaitFault,
 }
 
 impl Status {
@@ -40,6 +44,8 @@ impl Status {
             Status::SinkFault => 5,
             Status::NoMemory => 6,
             Status::Missing { .. } => 7,
+            Status::ListenFault => 8,
+            Status::WaitFault => 9,
         }
     }
 }
@@ -73,6 +79,8 @@ impl fmt::Display for Status {
             Status::SinkFault => write!(f, "lighttpd: output failed"),
             Status::NoMemory => write!(f, "lighttpd: out of memory"),
             Status::Missing { text } => write!(f, "lighttpd: text {text} is missing"),
+            Status::ListenFault => write!(f, "lighttpd: cannot listen"),
+            Status::WaitFault => write!(f, "lighttpd: waiting failed"),
         }
     }
 }
