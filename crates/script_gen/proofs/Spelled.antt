@@ -97,7 +97,7 @@ record Say (lines : List (List ℕ)) (steps : List StepOf) : Type 0 where
   items : List Line
   each : AreLines lines items
   clean : AreFeedless lines
-  gives : gathered items ≡ record { files = []; steps = steps }
+  gives : gathered items ≡ record { files = []; faults = []; steps = steps }
 
 client_say : (number draw : ℕ) (lines : List (List ℕ)) (steps : List StepOf) → number < 10000 → file_of draw ≤ 3 → Say lines steps → Say (client_lines number draw ++ lines) (client number draw ++ steps)
 client_say number draw lines steps few file rest =

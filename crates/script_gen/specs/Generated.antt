@@ -39,6 +39,6 @@ client number draw = Accept peer local ∷ Bytes (named number) (request (file_o
 abbrev pub clients_below : ℕ → ℕ → List Step
 clients_below clients first = flat_map (λ number. client number (drawn clients (number + 1))) (range_with_len 0 first)
 
--- the script of so many clients
+-- the script of so many clients, in which no call fails
 abbrev pub generated : ℕ → Script
-generated clients = record { files = fills; steps = clients_below clients clients }
+generated clients = record { files = fills; faults = []; steps = clients_below clients clients }

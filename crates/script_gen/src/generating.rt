@@ -48,7 +48,12 @@ pub fn generate(alloc: Global, clients: u64) -> Result<Script, NoMemory>
 {
     let files = fills(alloc)?;
     let steps = arrivals(alloc, clients)?;
-    Ok(Script { files, steps })
+    let faults = List::new(alloc);
+    Ok(Script {
+        files,
+        faults,
+        steps,
+    })
 }
 
 // The four files.
