@@ -1,0 +1,4 @@
+pub mod Finishes
+pub mod Listening
+pub mod Served
+pub mod Serving
