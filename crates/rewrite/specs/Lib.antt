@@ -1,0 +1,4 @@
+pub mod Rules
+pub mod Rewriting
+pub mod Found
+pub mod Passing
