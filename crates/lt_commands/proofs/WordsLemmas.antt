@@ -1,140 +1,89 @@
--- Four words, one by one.
-use Rattle.std.proofs.Common.{◌≡◌, ◌⊎◌, ℕ, inl, inr, subst, ap, sym, ◌∙◌, ◌<◌, ◌≤◌, ◌-◌, List, [], ◌∷◌, length, get_or, take, drop, arith}
-use Rattle.std.proofs.lemmas.Grind.{common_steps}
-use Rattle.std.specs.Prelude.{codes, Option, Some, None, IfSome, IfNone}
-use Rattle.lt_commands.specs.Words.{Line, Replay, Check, Print, SpellsAlone, SpellsLine}
+-- Words are one line, or none.
+use Rattle.std.proofs.Common.{◌≡◌, ℕ, List, [], refl, sym, subst, ◌∙◌, inl}
+use Rattle.std.specs.Prelude.{Some}
+use Rattle.lt_world.specs.declared.net.NextKind.{NextKind}
+use Rattle.lt_world.specs.declared.net.NextKind.TheVariants as kind
+use Rattle.lt_world.specs.declared.texts.Fetch.{Fetch}
+use Rattle.lt_world.specs.TextAnswers.{Library}
+use Rattle.lt_commands.specs.declared.status.Status.{Status}
+use Rattle.lt_commands.specs.declared.status.Status.TheVariants as status
+use Rattle.lt_commands.specs.Words.{Line, Replay, Check, Print, as_words, SpellsLine, IsNoLine}
+use Rattle.lt_commands.specs.Offline.{WordsSay, LineSays, FaultsSay, MemorySays, Completes, SinkSays}
+use Rattle.lt_commands.specs.Fetching.{LineAsks}
 
--- a list of four elements is those at its four places
-pub four_places : {A : Type 0} (xs : List A) (a b c d : A) → 4 ≤ length xs → length xs < 5 → a ≡ get_or xs 0 a → b ≡ get_or xs 1 b → c ≡ get_or xs 2 c → d ≡ get_or xs 3 d → xs ≡ a ∷ b ∷ c ∷ d ∷ []
-four_places [] a b c d least most pa pb pc pd = absurd (omega arith)
-four_places (p ∷ []) a b c d least most pa pb pc pd = absurd (omega arith)
-four_places (p ∷ q ∷ []) a b c d least most pa pb pc pd = absurd (omega arith)
-four_places (p ∷ q ∷ r ∷ []) a b c d least most pa pb pc pd = absurd (omega arith)
-four_places (p ∷ q ∷ r ∷ s ∷ []) a b c d least most pa pb pc pd = cc
-four_places (p ∷ q ∷ r ∷ s ∷ t ∷ more) a b c d least most pa pb pc pd = absurd (omega arith)
+same_words : (words : List (List ℕ)) (a b : Line) → SpellsLine words a → SpellsLine words b → as_words a ≡ as_words b
+same_words words a b p q = let both : Some (as_words a) ≡ Some (as_words b) = sym p ∙ q in cc both
 
--- a list of three elements is those at its three places
-pub three_places : {A : Type 0} (xs : List A) (a b c : A) → 3 ≤ length xs → length xs < 4 → a ≡ get_or xs 0 a → b ≡ get_or xs 1 b → c ≡ get_or xs 2 c → xs ≡ a ∷ b ∷ c ∷ []
-three_places [] a b c least most pa pb pc = absurd (omega arith)
-three_places (p ∷ []) a b c least most pa pb pc = absurd (omega arith)
-three_places (p ∷ q ∷ []) a b c least most pa pb pc = absurd (omega arith)
-three_places (p ∷ q ∷ r ∷ []) a b c least most pa pb pc = cc
-three_places (p ∷ q ∷ r ∷ s ∷ more) a b c least most pa pb pc = absurd (omega arith)
-
--- a list is its first element and the others
-pub behind_first : {A : Type 0} (xs : List A) (a : A) → 1 ≤ length xs → a ≡ get_or xs 0 a → xs ≡ a ∷ take (length xs - 1) (drop 1 xs)
-behind_first [] a least pa = absurd (omega arith)
-behind_first (p ∷ xs) a least pa = let all : take (length (p ∷ xs) - 1) (drop 1 (p ∷ xs)) ≡ xs = grind (arith, common_steps) in cc
-
--- the second byte of the first word tells the lines apart
-second_byte : List (List ℕ) → ℕ
-second_byte words = get_or (get_or words 0 []) 1 0
-
-abbrev second_of : Line → ℕ
-second_of (Replay conf script) = 101
-second_of (Check conf) = 116
-second_of (Print conf) = 112
-
-second_byte_of : (words : List (List ℕ)) (line : Line) → SpellsAlone words line → second_byte words ≡ second_of line
-unfolding second_byte
-second_byte_of words (Replay conf script) p = absurd p
-second_byte_of words (Check conf) p = ap (λ (w : List (List ℕ)). second_byte w) p
-second_byte_of words (Print conf) p = ap (λ (w : List (List ℕ)). second_byte w) p
-
-of_flag : (words rest : List (List ℕ)) → words ≡ codes "-D" ∷ rest → second_byte words ≡ 68
-unfolding second_byte
-of_flag words rest p = ap (λ (w : List (List ℕ)). second_byte w) p
-
-of_replay : (words : List (List ℕ)) (conf script : List ℕ) → SpellsLine words (Replay conf script) → second_byte words ≡ 101
-unfolding second_byte
-of_replay words conf script p = ap (λ (w : List (List ℕ)). second_byte w) p
-
--- the name of the configuration is the third word
-third : (words : List (List ℕ)) (a b c x y z : List ℕ) → words ≡ a ∷ b ∷ c ∷ [] → words ≡ x ∷ y ∷ z ∷ [] → c ≡ z
-third words a b c x y z p q = ap (λ (w : List (List ℕ)). get_or w 2 []) (sym p ∙ q)
-
--- words on a configuration alone are one line
-one_alone : (words : List (List ℕ)) (a b : Line) → SpellsAlone words a → SpellsAlone words b → a ≡ b
-one_alone words (Replay conf script) b p q = absurd p
-one_alone words (Check conf) (Replay other script) p q = absurd q
-one_alone words (Check conf) (Check other) p q = ap Check (third words _ _ conf _ _ other p q)
-one_alone words (Check conf) (Print other) p q = let e : 116 ≡ 112 = sym (second_byte_of words (Check conf) p) ∙ second_byte_of words (Print other) q in absurd (omega (arith, e))
-one_alone words (Print conf) (Replay other script) p q = absurd q
-one_alone words (Print conf) (Check other) p q = let e : 112 ≡ 116 = sym (second_byte_of words (Print conf) p) ∙ second_byte_of words (Check other) q in absurd (omega (arith, e))
-one_alone words (Print conf) (Print other) p q = ap Print (third words _ _ conf _ _ other p q)
-
--- they do not begin with the flag that may stand before them, or with the word of a replay
-not_flag : (words rest : List (List ℕ)) (a : Line) → SpellsAlone words a → words ≡ codes "-D" ∷ rest → ⊥
-not_flag words rest (Replay conf script) p q = p
-not_flag words rest (Check conf) p q = let e : 116 ≡ 68 = sym (second_byte_of words (Check conf) p) ∙ of_flag words rest q in absurd (omega (arith, e))
-not_flag words rest (Print conf) p q = let e : 112 ≡ 68 = sym (second_byte_of words (Print conf) p) ∙ of_flag words rest q in absurd (omega (arith, e))
-
-not_replay : (words : List (List ℕ)) (conf script : List ℕ) (a : Line) → SpellsAlone words a → SpellsLine words (Replay conf script) → ⊥
-not_replay words conf script (Replay other more) p q = p
-not_replay words conf script (Check other) p q = let e : 116 ≡ 101 = sym (second_byte_of words (Check other) p) ∙ of_replay words conf script q in absurd (omega (arith, e))
-not_replay words conf script (Print other) p q = let e : 112 ≡ 101 = sym (second_byte_of words (Print other) p) ∙ of_replay words conf script q in absurd (omega (arith, e))
-
--- what is spelled by words that may begin with the flag
-abbrev Flagged : List (List ℕ) → Line → Type 0
-Flagged words line = SpellsAlone words line ⊎ ((rest : List (List ℕ)) × (words ≡ codes "-D" ∷ rest) × SpellsAlone rest line)
-
-one_flagged : (words : List (List ℕ)) (a b : Line) → Flagged words a → Flagged words b → a ≡ b
-one_flagged words a b (inl p) (inl q) = one_alone words a b p q
-one_flagged words a b (inl p) (inr (rest, q, r)) = absurd (not_flag words rest a p q)
-one_flagged words a b (inr (rest, p, r)) (inl q) = absurd (not_flag words rest b q p)
-one_flagged words a b (inr (rest, p, r)) (inr (more, q, s)) =
-    let same : more ≡ rest = ap (λ (w : List (List ℕ)). drop 1 w) (sym q ∙ p) in
-    one_alone rest a b r (subst (λ (l : List (List ℕ)). SpellsAlone l b) same s)
-
-flagged_replay : (words : List (List ℕ)) (conf script : List ℕ) (a : Line) → Flagged words a → SpellsLine words (Replay conf script) → ⊥
-flagged_replay words conf script a (inl p) q = not_replay words conf script a p q
-flagged_replay words conf script a (inr (rest, p, r)) q = let e : 68 ≡ 101 = sym (of_flag words rest p) ∙ of_replay words conf script q in absurd (omega (arith, e))
+same_line : (a b : Line) → as_words a ≡ as_words b → a ≡ b
+same_line (Replay conf script) (Replay other more) same = cc same
+same_line (Replay conf script) (Check other) same = absurd (cc same)
+same_line (Replay conf script) (Print other) same = absurd (cc same)
+same_line (Check conf) (Replay other more) same = absurd (cc same)
+same_line (Check conf) (Check other) same = cc same
+same_line (Check conf) (Print other) same = absurd (cc same)
+same_line (Print conf) (Replay other more) same = absurd (cc same)
+same_line (Print conf) (Check other) same = absurd (cc same)
+same_line (Print conf) (Print other) same = cc same
 
 -- words are one line
 pub one_line : (words : List (List ℕ)) (a b : Line) → SpellsLine words a → SpellsLine words b → a ≡ b
-one_line words (Replay conf script) (Replay other more) p q =
-    let same : conf ≡ other = ap (λ (w : List (List ℕ)). get_or w 2 []) (sym p ∙ q) in
-    let script_same : script ≡ more = ap (λ (w : List (List ℕ)). get_or w 3 []) (sym p ∙ q) in
-    cc (same, script_same)
-one_line words (Replay conf script) (Check other) p q = absurd (flagged_replay words conf script (Check other) q p)
-one_line words (Replay conf script) (Print other) p q = absurd (flagged_replay words conf script (Print other) q p)
-one_line words (Check conf) (Replay other more) p q = absurd (flagged_replay words other more (Check conf) p q)
-one_line words (Check conf) (Check other) p q = one_flagged words (Check conf) (Check other) p q
-one_line words (Check conf) (Print other) p q = one_flagged words (Check conf) (Print other) p q
-one_line words (Print conf) (Replay other more) p q = absurd (flagged_replay words other more (Print conf) p q)
-one_line words (Print conf) (Check other) p q = one_flagged words (Print conf) (Check other) p q
-one_line words (Print conf) (Print other) p q = one_flagged words (Print conf) (Print other) p q
+one_line words a b p q = same_line a b (same_words words a b p q)
 
--- the words on a configuration alone are a line
-pub alone_line : (words : List (List ℕ)) (line : Line) → SpellsAlone words line → SpellsLine words line
-alone_line words (Replay conf script) p = absurd p
-alone_line words (Check conf) p = inl p
-alone_line words (Print conf) p = inl p
+-- words that are a line are refused for want of memory alone
+pub memory_alone : (answer : Status) (words : List (List ℕ)) (line : Line) → IsNoLine answer words → SpellsLine words line → answer ≡ status.NoMemory
+memory_alone status.Usage words line none spelled = absurd (none line spelled)
+memory_alone status.NoMemory words line none spelled = refl
+memory_alone status.Done words line none spelled = absurd none
+memory_alone (status.Conf fault) words line none spelled = absurd none
+memory_alone (status.Script number) words line none spelled = absurd none
+memory_alone status.TextFault words line none spelled = absurd none
+memory_alone status.SinkFault words line none spelled = absurd none
+memory_alone (status.Missing number) words line none spelled = absurd none
+memory_alone status.ListenFault words line none spelled = absurd none
+memory_alone status.WaitFault words line none spelled = absurd none
 
--- so are those with the flag before them
-pub flagged_line : (words rest : List (List ℕ)) (line : Line) → words ≡ codes "-D" ∷ rest → SpellsAlone rest line → SpellsLine words line
-flagged_line words rest (Replay conf script) p q = absurd q
-flagged_line words rest (Check conf) p q = inr (rest, p, q)
-flagged_line words rest (Print conf) p q = inr (rest, p, q)
+-- what is said of a call whose words give no line
+pub record Wordless (answer : Status) (words : List (List ℕ)) (last : NextKind) (texts texts_now sink sink_now : ℕ) : Type 0 where
+  pub words_say : WordsSay answer words
+  pub faults : FaultsSay answer texts texts_now sink sink_now
+  pub memory : MemorySays answer last
 
--- words are no line where none of the three ways to spell one is theirs
-pub no_line : (words : List (List ℕ)) → ((conf script : List ℕ) → ¬ SpellsLine words (Replay conf script)) → ((line : Line) → ¬ SpellsAlone words line)
-    → ((rest : List (List ℕ)) → words ≡ codes "-D" ∷ rest → (line : Line) → ¬ SpellsAlone rest line) → (line : Line) → ¬ SpellsLine words line
-no_line words replay alone flagged (Replay conf script) p = replay conf script p
-no_line words replay alone flagged (Check conf) (inl p) = alone (Check conf) p
-no_line words replay alone flagged (Check conf) (inr (rest, p, q)) = flagged rest p (Check conf) q
-no_line words replay alone flagged (Print conf) (inl p) = alone (Print conf) p
-no_line words replay alone flagged (Print conf) (inr (rest, p, q)) = flagged rest p (Print conf) q
+pub wordless : (answer : Status) (words : List (List ℕ)) (last : NextKind) (texts texts_now sink sink_now : ℕ) → IsNoLine answer words → last ≡ kind.NoneYet → Wordless answer words last texts texts_now sink sink_now
+wordless status.Usage words last texts texts_now sink sink_now none unasked = record { words_say = none; faults = tt; memory = tt }
+wordless status.NoMemory words last texts texts_now sink sink_now none unasked = record { words_say = tt; faults = tt; memory = inl unasked }
+wordless status.Done words last texts texts_now sink sink_now none unasked = absurd none
+wordless (status.Conf fault) words last texts texts_now sink sink_now none unasked = absurd none
+wordless (status.Script number) words last texts texts_now sink sink_now none unasked = absurd none
+wordless status.TextFault words last texts texts_now sink sink_now none unasked = absurd none
+wordless status.SinkFault words last texts texts_now sink sink_now none unasked = absurd none
+wordless (status.Missing number) words last texts texts_now sink sink_now none unasked = absurd none
+wordless status.ListenFault words last texts texts_now sink sink_now none unasked = absurd none
+wordless status.WaitFault words last texts texts_now sink sink_now none unasked = absurd none
 
--- behind the flag there are other words
-pub same_rest : (words rest others : List (List ℕ)) → words ≡ codes "-D" ∷ rest → words ≡ codes "-D" ∷ others → others ≡ rest
-same_rest words rest others p q = ap (λ (w : List (List ℕ)). drop 1 w) (sym q ∙ p)
+-- want of memory fits every line
+memory_says : (line : Line) (library : Library) → LineSays status.NoMemory line library
+memory_says (Replay conf script) library = tt
+memory_says (Check conf) library = tt
+memory_says (Print conf) library = tt
 
--- what is said of a call, where there is one, and where there is none
-pub if_some : {A : Type 0} (P Q : A → Type 0) (o : Option A) → ((x : A) → P x → Q x) → IfSome o P → IfSome o Q
-if_some P Q (Some x) f p = f x p
-if_some P Q None f p = tt
+pub wordless_says : (answer : Status) (line : Line) (library : Library) → answer ≡ status.NoMemory → LineSays answer line library
+wordless_says answer line library is = subst (λ (s : Status). LineSays s line library) (sym is) (memory_says line library)
 
-pub if_none : {A P Q : Type 0} (o : Option A) → (P → Q) → IfNone o P → IfNone o Q
-if_none (Some x) f p = tt
-if_none None f p = f p
+memory_asks : (line : Line) (library : Library) (calls : List Fetch) → LineAsks status.NoMemory line library calls calls
+memory_asks (Replay conf script) library calls = inl (record { asked = []; calls = refl; ends = tt })
+memory_asks (Check conf) library calls = inl (record { asked = []; calls = refl; ends = tt })
+memory_asks (Print conf) library calls = inl refl
+
+pub wordless_asks : (answer : Status) (line : Line) (library : Library) (calls : List Fetch) → answer ≡ status.NoMemory → LineAsks answer line library calls calls
+wordless_asks answer line library calls is = subst (λ (s : Status). LineAsks s line library calls calls) (sym is) (memory_asks line library calls)
+
+memory_completes : (line : Line) (library : Library) → Completes status.NoMemory line library
+memory_completes (Replay conf script) library = λ loaded said. tt
+memory_completes (Check conf) library = λ loaded. tt
+memory_completes (Print conf) library = λ tree. tt
+
+pub wordless_completes : (answer : Status) (line : Line) (library : Library) → answer ≡ status.NoMemory → Completes answer line library
+wordless_completes answer line library is = subst (λ (s : Status). Completes s line library) (sym is) (memory_completes line library)
+
+pub wordless_sink : (answer : Status) (output before : List ℕ) → answer ≡ status.NoMemory → SinkSays answer output before before
+wordless_sink answer output before is = subst (λ (s : Status). SinkSays s output before before) (sym is) refl

@@ -17,9 +17,10 @@ use Rattle.lt_commands.specs.Reading.{HasScript, IsWrongAt}
 use Rattle.lt_commands.specs.Printing.{HasTree, IsFault}
 use Rattle.lt_commands.specs.Warnings.{checked}
 
--- Usage comes exactly where the words are no line of the call
+-- Usage comes exactly where the words are no line of the call, unless there is no memory to read them
 abbrev pub WordsSay : Status → List (List ℕ) → Type 0
 WordsSay status.Usage words = (line : Line) → ¬ SpellsLine words line
+WordsSay status.NoMemory words = Unit {0}
 WordsSay other words = (line : Line) × SpellsLine words line
 
 -- the status of a call whose words are a line

@@ -1,5 +1,8 @@
--- The lines that the program takes.
-use Rattle.std.specs.Prelude.{◌≡◌, ℕ, ◌⊎◌, ◌∷◌, List, [], codes}
+-- The lines that the program does without sockets (`command_words`, `Line`).
+use Rattle.std.specs.Prelude.{◌≡◌, ℕ, List, Some}
+use Rattle.command_words.specs.Lines.{line_of, Line as WordsLine, Replay as replay, Check as check, Print as print}
+use Rattle.lt_commands.specs.declared.status.Status.{Status}
+use Rattle.lt_commands.specs.declared.status.Status.TheVariants as status
 
 pub data Line : Type 0 where
   -- plays the script of this name with the configuration of that one
@@ -9,13 +12,18 @@ pub data Line : Type 0 where
   -- prints the configuration of this name
   Print : List ℕ → Line
 
--- the words of a line on a configuration alone, each as its bytes
-abbrev pub SpellsAlone : List (List ℕ) → Line → Type 0
-SpellsAlone words (Replay conf script) = ⊥
-SpellsAlone words (Check conf) = words ≡ codes "-t" ∷ codes "-f" ∷ conf ∷ []
-SpellsAlone words (Print conf) = words ≡ codes "-p" ∷ codes "-f" ∷ conf ∷ []
+-- among all lines of the program
+abbrev pub as_words : Line → WordsLine
+as_words (Replay conf script) = replay conf script
+as_words (Check conf) = check conf
+as_words (Print conf) = print conf
 
--- the words of a line; `-D` may stand before those on a configuration alone, and changes nothing
+-- the words are this line, each as its bytes
 abbrev pub SpellsLine : List (List ℕ) → Line → Type 0
-SpellsLine words (Replay conf script) = words ≡ codes "replay" ∷ codes "-f" ∷ conf ∷ script ∷ []
-SpellsLine words line = SpellsAlone words line ⊎ ((rest : List (List ℕ)) × (words ≡ codes "-D" ∷ rest) × SpellsAlone rest line)
+SpellsLine words line = line_of words ≡ Some (as_words line)
+
+-- why words give no line: they are none of these, or can't be read for want of memory
+abbrev pub IsNoLine : Status → List (List ℕ) → Type 0
+IsNoLine status.Usage words = (line : Line) → ¬ SpellsLine words line
+IsNoLine status.NoMemory words = Unit {0}
+IsNoLine other words = ⊥

@@ -86,13 +86,13 @@ pub fn offline<X: Texts, S: Sink>(
     // Words that are no line change nothing.
     ensures usage { result ≡ Status.Usage → (texts.new ≡ texts.old) × (net.new ≡ net.old) × (files.new ≡ files.old) × (sink.new ≡ sink.old) }
 {
-    match read_words(words) {
-        None => Status::Usage,
-        Some(Call::Replay { conf, script }) => {
+    match read_words(alloc, words) {
+        Err(status) => status,
+        Ok(Call::Replay { conf, script }) => {
             replay(alloc, conf, script, texts, net, files, sink)
         }
-        Some(Call::Check { conf }) => check_conf(alloc, conf, texts, sink),
-        Some(Call::Print { conf }) => print_conf(alloc, conf, texts, sink),
+        Ok(Call::Check { conf }) => check_conf(alloc, conf, texts, sink),
+        Ok(Call::Print { conf }) => print_conf(alloc, conf, texts, sink),
     }
 }
 

@@ -1,7 +1,11 @@
-//! The words of a call.
-ghost use Rattle.std.specs.Prelude.{◌≡◌, ℕ, List, IfSome, IfNone, map, string_bytes};
-ghost use Rattle.lt_commands.specs.Words.{Line, SpellsLine, SpellsAlone, Replay as replay};
+//! The words of a call that needs no sockets.
+ghost use Rattle.std.specs.Prelude.{◌≡◌, IfOk, IfErr, map, string_bytes};
+ghost use Rattle.lt_commands.specs.Words.{SpellsLine, IsNoLine};
 ghost use Rattle.lt_commands.specs.Calls.{line_of};
+
+use crate::status::Status;
+use command_words::{Line, WordsError, read_line};
+use std::alloc::Global;
 
 /// A line of the program, with the names of its texts.
 #[derive(Clone, Copy, Debug)]
@@ -14,59 +18,17 @@ pub enum Call<'a> {
     Print { conf: &'a str },
 }
 
-/// The line that the words are, where they are one.
-pub fn read_words(words: &[String]) -> Option<Call<'_>>
-    ensures found { IfSome result (λ call. SpellsLine (map string_bytes words.now) (line_of call)) }
-    ensures none { IfNone result ((line : Line) → ¬ SpellsLine (map string_bytes words.now) line) }
+/// The line that the words are, or the status of a call whose words are none.
+pub fn read_words<'a>(alloc: Global, words: &'a [String]) -> Result<Call<'a>, Status>
+    ensures found { IfOk result (λ call. SpellsLine (map string_bytes words.now) (line_of call)) }
+    ensures none { IfErr result (λ status. IsNoLine status (map string_bytes words.now)) }
 {
-    if let Some(call) = replay_of(words) {
-        return Some(call);
+    match read_line(alloc, words) {
+        Ok(Line::Replay { conf, script }) => Ok(Call::Replay { conf, script }),
+        Ok(Line::Check { conf }) => Ok(Call::Check { conf }),
+        Ok(Line::Print { conf }) => Ok(Call::Print { conf }),
+        Ok(Line::Serve { .. }) => Err(Status::Usage),
+        Err(WordsError::Usage) => Err(Status::Usage),
+        Err(WordsError::NoMemory) => Err(Status::NoMemory),
     }
-    if let Some(call) = alone(words) {
-        return Some(call);
-    }
-    let [foreground, rest @ ..] = words else {
-        return None;
-    };
-    if foreground.as_str() != "-D" {
-        return None;
-    }
-    alone(rest)
-}
-
-fn replay_of(words: &[String]) -> Option<Call<'_>>
-    ensures found { IfSome result (λ call. SpellsLine (map string_bytes words.now) (line_of call)) }
-    ensures none { IfNone result ((conf script : List ℕ) → ¬ SpellsLine (map string_bytes words.now) (replay conf script)) }
-{
-    let [command, flag, conf, script] = words else {
-        return None;
-    };
-    if command.as_str() != "replay" || flag.as_str() != "-f" {
-        return None;
-    }
-    Some(Call::Replay {
-        conf: conf.as_str(),
-        script: script.as_str(),
-    })
-}
-
-// The line of `-t -f CONF` or `-p -f CONF`.
-fn alone(words: &[String]) -> Option<Call<'_>>
-    ensures found { IfSome result (λ call. SpellsAlone (map string_bytes words.now) (line_of call)) }
-    ensures none { IfNone result ((line : Line) → ¬ SpellsAlone (map string_bytes words.now) line) }
-{
-    let [flag, option, conf] = words else {
-        return None;
-    };
-    if option.as_str() != "-f" {
-        return None;
-    }
-    let conf = conf.as_str();
-    if flag.as_str() == "-t" {
-        return Some(Call::Check { conf });
-    }
-    if flag.as_str() == "-p" {
-        return Some(Call::Print { conf });
-    }
-    None
 }
