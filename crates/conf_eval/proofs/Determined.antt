@@ -18,7 +18,7 @@ use Rattle.conf_eval.specs.declared.fault.Loaded.{Loaded}
 use Rattle.conf_eval.specs.declared.halt.Wrong.{Wrong}
 use Rattle.conf_eval.specs.Settings.{State, sets}
 use Rattle.conf_eval.specs.Load as spec
-use Rattle.conf_eval.specs.Load.{include, Part, Reply, Went, Stopped, Strayed, goes_on, settles, gives, held_as, Outcome, Ended, Astray}
+use Rattle.conf_eval.specs.Load.{include, Part, Reply, Went, Stopped, Short, Strayed, goes_on, settles, gives, held_as, Outcome, Ended, Unended, Astray}
 use Rattle.conf_eval.specs.Outcomes.{NoneFailed, IsUnread, EndsUnread}
 use Rattle.conf_eval.proofs.Placed.{no}
 
@@ -37,20 +37,31 @@ module _ (May : Type 0) where
   abbrev Agree : Reply → Reply → Type 0
   Agree (Went s a) (Went t b) = (s ≡ t) × NoneFailed a × MayFail b
   Agree (Went s a) (Stopped y b) = Unread y
+  Agree (Went s a) Short = Unit {0}
   Agree (Went s a) Strayed = Unit {0}
   Agree (Stopped x a) (Went t b) = ⊥
   Agree (Stopped x a) (Stopped y b) = (x ≡ y) ⊎ Unread y
+  Agree (Stopped x a) Short = Unit {0}
   Agree (Stopped x a) Strayed = Unit {0}
+  Agree Short reply = Unit {0}
   Agree Strayed reply = Unit {0}
 
   strayed : (r : Reply) → Agree r Strayed
   strayed (Went s a) = tt
   strayed (Stopped x a) = tt
+  strayed Short = tt
   strayed Strayed = tt
+
+  short : (r : Reply) → Agree r Short
+  short (Went s a) = tt
+  short (Stopped x a) = tt
+  short Short = tt
+  short Strayed = tt
 
   unread : (r : Reply) (y : LoadError) (b : List Fetch) → Unread y → Agree r (Stopped y b)
   unread (Went s a) y b h = h
   unread (Stopped x a) y b h = inr h
+  unread Short y b h = tt
   unread Strayed y b h = tt
 
   -- whatever calls come, the replies of the part agree
@@ -60,10 +71,13 @@ module _ (May : Type 0) where
   goes : (next : Part) → Determined next → (r q : Reply) → Agree r q → Agree (goes_on r next) (goes_on q next)
   goes next h (Went s a) (Went t b) k = subst (λ (u : State). Agree (next s a) (next u b)) k.0 (h s a b k.1 k.2)
   goes next h (Went s a) (Stopped y b) k = unread (next s a) y b k
+  goes next h (Went s a) Short k = short (next s a)
   goes next h (Went s a) Strayed k = strayed (next s a)
   goes next h (Stopped x a) (Went t b) k = absurd k
   goes next h (Stopped x a) (Stopped y b) k = k
+  goes next h (Stopped x a) Short k = tt
   goes next h (Stopped x a) Strayed k = tt
+  goes next h Short q k = tt
   goes next h Strayed q k = tt
 
   -- ---- a fetch
@@ -132,7 +146,7 @@ module _ (May : Type 0) where
 
       asks : (file line : ℕ) (scopes name : List ℕ) → Determined (spec.asks library include file line scopes name)
       asks file line scopes name s [] b n m = tt
-      asks file line scopes name s (c ∷ a) [] n m = strayed (spec.asks library include file line scopes name s (c ∷ a))
+      asks file line scopes name s (c ∷ a) [] n m = short (spec.asks library include file line scopes name s (c ∷ a))
       asks file line scopes name s (c ∷ a) (d ∷ b) n m =
           named (spec.included library include file line scopes) (λ t others r may. unread r _ others (may, refl)) (found file line scopes) (library name) s a b n.1 m.1
           c.answer d.answer n.0 m.0 (bytes_eq c.name name) (bytes_eq d.name name)
@@ -151,7 +165,7 @@ module _ (May : Type 0) where
 
     root : (name : List ℕ) → Determined (spec.root library name)
     root name s [] b n m = tt
-    root name s (c ∷ a) [] n m = strayed (spec.root library name s (c ∷ a))
+    root name s (c ∷ a) [] n m = short (spec.root library name s (c ∷ a))
     root name s (c ∷ a) (d ∷ b) n m =
         named (spec.roots library) (λ t others r may. unread r _ others (may, tt)) roots (library name) s a b n.1 m.1 c.answer d.answer n.0 m.0 (bytes_eq c.name name) (bytes_eq d.name name)
 
@@ -159,7 +173,10 @@ module _ (May : Type 0) where
 
 abbrev answer_of : Outcome → Option (Result Loaded LoadError)
 answer_of (Ended x) = Some x
-answer_of Astray = None
+answer_of other = None
+
+unended : {P : Type 0} (x : Result Loaded LoadError) → Unended ≡ Ended x → P
+unended x p = no (ap is_some (ap answer_of p))
 
 astray : {P : Type 0} (x : Result Loaded LoadError) → Astray ≡ Ended x → P
 astray x p = no (ap is_some (ap answer_of p))
@@ -184,6 +201,7 @@ ended (Went s []) x p = inl (record { state = s; is = refl; answer = ended_same 
 ended (Went s (c ∷ calls)) x p = astray x p
 ended (Stopped y []) x p = inr (record { why = y; is = refl; answer = ended_same (Err y) x p })
 ended (Stopped y (c ∷ calls)) x p = astray x p
+ended Short x p = unended x p
 ended Strayed x p = astray x p
 
 -- ---- the whole

@@ -20,7 +20,7 @@ use Rattle.conf_eval.specs.declared.fault.Loaded.{Loaded}
 use Rattle.conf_eval.specs.declared.halt.Wrong.{Wrong}
 use Rattle.conf_eval.specs.Settings.{State, sets}
 use Rattle.conf_eval.specs.Load as spec
-use Rattle.conf_eval.specs.Load.{include, Part, Reply, Went, Stopped, Strayed, goes_on, settles, gives, held_as, Ended}
+use Rattle.conf_eval.specs.Load.{include, Part, Reply, Went, Stopped, Short, Strayed, goes_on, settles, gives, held_as, Ended}
 use Rattle.conf_eval.specs.Answers.{Ran, with_calls}
 use Rattle.conf_eval.specs.Outcomes.{FirstSays, IsOnly, Opens, asking}
 use Rattle.conf_eval.proofs.Determined.{Closed, Halted, ended}
@@ -39,6 +39,7 @@ Faults other = Unit {0}
 goes : (next : Part) → ((s : State) (calls : List Fetch) → Faults (next s calls)) → (r : Reply) → Faults r → Faults (goes_on r next)
 goes next h (Went s calls) k = h s calls
 goes next h (Stopped x calls) k = k
+goes next h Short k = tt
 goes next h Strayed k = tt
 
 module _ (library : Library) where
@@ -110,6 +111,7 @@ Rightly other held answer rest = Unit {0}
 faulty : (r : Reply) (held : Option (List ℕ)) (answer : FetchKind) (rest : List Fetch) → Faults r → Rightly r held answer rest
 faulty (Went s calls) held answer rest h = tt
 faulty (Stopped x calls) held answer rest h = inl h
+faulty Short held answer rest h = tt
 faulty Strayed held answer rest h = tt
 
 module _ (library : Library) (s : State) (rest : List Fetch) where

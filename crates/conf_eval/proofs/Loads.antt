@@ -7,6 +7,7 @@ use Rattle.lt_world.specs.declared.texts.FetchKind.TheVariants as call
 use Rattle.lt_world.specs.declared.texts.Fetched.{Fetched}
 use Rattle.lt_world.specs.declared.texts.Fetched.TheVariants as fetched
 use Rattle.lt_world.specs.TextAnswers.{Library}
+use Rattle.conf_parse.specs.declared.tree.Term.{Term}
 use Rattle.conf_eval.specs.declared.fault.ConfKind.TheVariants as kind
 use Rattle.conf_eval.specs.declared.fault.LoadError.{LoadError}
 use Rattle.conf_eval.specs.declared.fault.LoadError.TheVariants as e
@@ -17,8 +18,9 @@ use Rattle.conf_eval.specs.declared.halt.Halt.TheVariants as halt
 use Rattle.conf_eval.specs.declared.loading.Loading.{Loading}
 use Rattle.conf_eval.specs.Faults.{proceed}
 use Rattle.conf_eval.specs.Settings.{State}
-use Rattle.conf_eval.specs.Load.{Part, Reply, Went, Stopped, Strayed, goes_on, fails, settles, include, included, text, gives, held_as, root, roots, load, ends, closes, has_root, start, Outcome, Ended}
-use Rattle.conf_eval.specs.Answers.{Is, Becomes, Runs, Ran, Gives, Closes, Loads, halted, state_of, with_calls}
+use Rattle.conf_eval.specs.Load.{Part, Reply, Went, Stopped, Strayed, goes_on, fails, settles, include, includes, include_of, name_of, included, text, gives, held_as, root, roots, load, ends, closes, has_root, start, Outcome, Ended}
+use Rattle.conf_eval.specs.Answers.{Is, Becomes, OnCourse, Runs, Ran, Gives, Closes, Loads, halted, state_of, with_calls}
+use Rattle.conf_eval.proofs.Courses.{Begins, include_of_begins, goes_course, is_on_course, settled_begins}
 use Rattle.conf_eval.proofs.Placed.{bytes_same}
 
 -- ---- what is due
@@ -42,7 +44,7 @@ stops_runs : (part : Part) (old new : State) (asked : List Fetch) (x : LoadError
 stops_runs part old new asked (e.Conf f) h = h
 stops_runs part old new asked e.RootMissing h = h
 stops_runs part old new asked e.RootFailed h = h
-stops_runs part old new asked e.NoMemory h = tt
+stops_runs part old new asked e.NoMemory h = is_on_course h tt
 
 module _ (part : Part) (old new : State) (calls : List Fetch) where
   -- a part that stops at once
@@ -54,14 +56,21 @@ module _ (part : Part) (old new : State) (calls : List Fetch) where
   goes h = record { asked = []; calls = refl; runs = h }
 
   -- a part for which memory ran out
-  pub lacks_memory : Ran part old calls calls (Err e.NoMemory) new
-  lacks_memory = record { asked = []; calls = refl; runs = tt }
+  pub lacks_memory : Begins part → Ran part old calls calls (Err e.NoMemory) new
+  lacks_memory begins = record { asked = []; calls = refl; runs = begins old }
 
 -- a statement that is wrong by itself
 pub settled_becomes : (part : Part) (old : State) (calls : List Fetch) (file line : ℕ) (due : Result State Wrong) → part old [] ≡ settles file line due []
     → (h : Halt) (new : Loading) → Becomes due (Err h) new → Ran part old calls calls (Err (halted h file line)) (state_of new)
 settled_becomes part old calls file line due is (halt.Wrong x) new h = stops part old (state_of new) calls _ (is ∙ ap (λ (d : Result State Wrong). settles file line d []) h)
-settled_becomes part old calls file line due is halt.NoMemory new h = lacks_memory part old (state_of new) calls
+settled_becomes part old calls file line due is halt.NoMemory new h = record { asked = []; calls = refl; runs = is_on_course is (settled_begins file line due) }
+
+-- an include whose name is wrong by itself
+pub unnamed : (library : Library) (d file line : ℕ) (scopes : List ℕ) (terms : List Term) (old new : State) (calls : List Fetch) (h : Halt) → Is (name_of scopes terms old) (Err h)
+    → Ran (include_of library d file line scopes terms) old calls calls (Err (halted h file line)) new
+unnamed library d file line scopes terms old new calls (halt.Wrong x) h =
+    stops (include_of library d file line scopes terms) old new calls _ (ap (λ (n : Result (List ℕ) Wrong). includes library (include library d) file line scopes n old []) h)
+unnamed library d file line scopes terms old new calls halt.NoMemory h = lacks_memory (include_of library d file line scopes terms) old new calls (include_of_begins library d file line scopes terms)
 
 -- ---- parts behind one another
 
@@ -75,7 +84,7 @@ ran_as part next old mid new before after r same h = record { asked = h.asked; c
     by (Err (e.Conf f)) k = same h.asked ∙ k
     by (Err e.RootMissing) k = same h.asked ∙ k
     by (Err e.RootFailed) k = same h.asked ∙ k
-    by (Err e.NoMemory) k = tt
+    by (Err e.NoMemory) k = is_on_course (same h.asked) k
 
 -- a part that asks for a text and then is another one
 pub ran_behind : (part next : Part) (old new : State) (before after : List Fetch) (r : Result (Unit {0}) LoadError) (c : Fetch) → ((others : List Fetch) → part old (c ∷ others) ≡ next old others)
@@ -87,7 +96,7 @@ ran_behind part next old new before after r c same h = record { asked = c ∷ h.
     by (Err (e.Conf f)) k = same h.asked ∙ k
     by (Err e.RootMissing) k = same h.asked ∙ k
     by (Err e.RootFailed) k = same h.asked ∙ k
-    by (Err e.NoMemory) k = tt
+    by (Err e.NoMemory) k = is_on_course (same h.asked) k
 
 -- a part that asks for a text and stops
 pub stops_behind : (part : Part) (old new : State) (before : List Fetch) (c : Fetch) (x : LoadError) → part old (c ∷ []) ≡ Stopped x [] → Ran part old before (c ∷ before) (Err x) new
@@ -113,8 +122,8 @@ module _ (whole left : Part) (old now : State) (before after : List Fetch) where
       runs = λ others. ap (whole old) (append_assoc h.asked k.asked others) ∙ h.runs (k.asked ++ others) ∙ is (k.asked ++ others) ∙ ap (λ (r : Reply). goes_on r next) (k.runs others);
     }
 
-    pub so_far_stops : (x : LoadError) → Ran part now after later (Err x) new → Ran whole old before later (Err x) new
-    so_far_stops x k = record { asked = h.asked ++ k.asked; calls = k.calls ∙ ap (λ (l : List Fetch). with_calls l k.asked) h.calls ∙ sym (with_calls-append before h.asked k.asked); runs = by x k.runs }
+    pub so_far_stops : Begins next → (x : LoadError) → Ran part now after later (Err x) new → Ran whole old before later (Err x) new
+    so_far_stops begins x k = record { asked = h.asked ++ k.asked; calls = k.calls ∙ ap (λ (l : List Fetch). with_calls l k.asked) h.calls ∙ sym (with_calls-append before h.asked k.asked); runs = by x k.runs }
       where
         stop : (y : LoadError) → part now k.asked ≡ Stopped y [] → whole old (h.asked ++ k.asked) ≡ Stopped y []
         stop y q = h.runs k.asked ∙ is k.asked ∙ ap (λ (r : Reply). goes_on r next) q
@@ -123,7 +132,7 @@ module _ (whole left : Part) (old now : State) (before after : List Fetch) where
         by (e.Conf f) q = stop (e.Conf f) q
         by e.RootMissing q = stop e.RootMissing q
         by e.RootFailed q = stop e.RootFailed q
-        by e.NoMemory q = tt
+        by e.NoMemory q = is_on_course (h.runs k.asked ∙ is k.asked) (goes_course next begins (part now k.asked) q)
 
 -- ---- includes
 
@@ -198,7 +207,7 @@ Gives-of (Ok x) a b q h = q ∙ h
 Gives-of (Err (e.Conf f)) a b q h = q ∙ h
 Gives-of (Err e.RootMissing) a b q h = q ∙ h
 Gives-of (Err e.RootFailed) a b q h = q ∙ h
-Gives-of (Err e.NoMemory) a b q h = tt
+Gives-of (Err e.NoMemory) a b q h = subst OnCourse (sym q) h
 
 pub load_ends : (library : Library) (name : List ℕ) (before after : List Fetch) (s : State) (r : Result Loaded LoadError)
     → Ran (root library name) start before after (Ok tt) s → Closes s r → Loads (load library name) before after r
@@ -216,4 +225,4 @@ load_stops library name before after s x h = record { asked = h.asked; calls = h
     by (e.Conf f) q = ap ends q
     by e.RootMissing q = ap ends q
     by e.RootFailed q = ap ends q
-    by e.NoMemory q = tt
+    by e.NoMemory q = q

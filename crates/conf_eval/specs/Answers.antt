@@ -12,7 +12,7 @@ use Rattle.conf_eval.specs.declared.halt.Halt.{Halt}
 use Rattle.conf_eval.specs.declared.halt.Halt.TheVariants as halt
 use Rattle.conf_eval.specs.declared.loading.Loading.{Loading}
 use Rattle.conf_eval.specs.Settings.{State, blocks_of}
-use Rattle.conf_eval.specs.Load.{Part, Went, Stopped, Outcome, Ended, closes, has_root}
+use Rattle.conf_eval.specs.Load.{Part, Went, Stopped, Outcome, Ended, Unended, Astray, ends, closes, has_root}
 
 -- an answer is the one that is due, unless memory ran out
 abbrev pub Is : {A : Type 0} → Result A Wrong → Result A Halt → Type 0
@@ -30,10 +30,17 @@ Becomes due (Ok done) new = due ≡ Ok (state_of new)
 Becomes due (Err (halt.Wrong x)) new = due ≡ Err x
 Becomes due (Err halt.NoMemory) new = Unit {0}
 
--- a part that asked for these texts comes to this, whatever calls follow
+-- the calls are those of the load, or the first of them: the nth is for the nth name, and there is none besides
+abbrev pub OnCourse : Outcome → Type 0
+OnCourse (Ended result) = Unit {0}
+OnCourse Unended = Unit {0}
+OnCourse Astray = ⊥
+
+-- A part that asked for these texts comes to this, whatever calls follow. Where memory ran out, they are those that it
+-- asks for, or the first of them.
 abbrev pub Runs : Part → State → List Fetch → Result (Unit {0}) LoadError → State → Type 0
 Runs part old asked (Ok done) new = (others : List Fetch) → part old (asked ++ others) ≡ Went new others
-Runs part old asked (Err e.NoMemory) new = Unit {0}
+Runs part old asked (Err e.NoMemory) new = OnCourse (ends (part old asked))
 Runs part old asked (Err x) new = part old asked ≡ Stopped x []
 
 -- what texts keep of their calls, the newest first, after these calls in order
@@ -47,9 +54,9 @@ pub record Ran (part : Part) (old : State) (before after : List Fetch) (result :
   pub calls : after ≡ with_calls before asked
   pub runs : Runs part old asked result new
 
--- an answer is the outcome, unless memory ran out
+-- an answer is the outcome; where memory ran out, no call was another one
 abbrev pub Gives : Result Loaded LoadError → Outcome → Type 0
-Gives (Err e.NoMemory) outcome = Unit {0}
+Gives (Err e.NoMemory) outcome = OnCourse outcome
 Gives result outcome = outcome ≡ Ended result
 
 -- what was loaded, or that the global block has no document root
@@ -61,7 +68,8 @@ abbrev pub halted : Halt → ℕ → ℕ → LoadError
 halted (halt.Wrong x) file line = e.Conf (fault (kind_of x) file line)
 halted halt.NoMemory file line = e.NoMemory
 
--- the calls that came to what was kept are those of the load that is due, and no others
+-- The calls that came to what was kept are those of the load that is due, and no others; where memory ran out, the first
+-- of them.
 pub record Loads (due : List Fetch → Outcome) (before after : List Fetch) (result : Result Loaded LoadError) : Type 0 where
   pub asked : List Fetch
   pub calls : after ≡ with_calls before asked

@@ -38,10 +38,12 @@ use Rattle.conf_eval.specs.Settings.{State, nearest, sets, blocks_of, settings_o
 
 -- ---- parts of a load
 
--- What a part of a load comes to, with the calls that are still to come; or they are not the calls of this load.
+-- What a part of a load comes to, with the calls that are still to come; or one is due where they are at an end (`Short`);
+-- or they are not the calls of this load.
 pub data Reply : Type 0 where
   Went : State → List Fetch → Reply
   Stopped : LoadError → List Fetch → Reply
+  Short : Reply
   Strayed : Reply
 
 abbrev pub Part : Type 0
@@ -51,6 +53,7 @@ Part = State → List Fetch → Reply
 abbrev pub goes_on : Reply → Part → Reply
 goes_on (Went s calls) next = next s calls
 goes_on (Stopped x calls) next = Stopped x calls
+goes_on Short next = Short
 goes_on Strayed next = Strayed
 
 -- a fault
@@ -149,7 +152,7 @@ module _ (library : Library) where
 
     -- the next call asks for this name
     abbrev pub asks : ℕ → ℕ → List ℕ → Text → State → List Fetch → Reply
-    asks file line scopes name s [] = Strayed
+    asks file line scopes name s [] = Short
     asks file line scopes name s (c ∷ calls) =
         if bytes_eq c.name name then included file line scopes (gives c.answer (library name) s.room) s calls else Strayed
 
@@ -173,9 +176,10 @@ module _ (library : Library) where
 
 -- ---- the whole
 
--- how a load ends, or these are not its calls
+-- how a load ends; or these are its first calls, and another one is due; or they are not its calls
 pub data Outcome : Type 0 where
   Ended : Result Loaded LoadError → Outcome
+  Unended : Outcome
   Astray : Outcome
 
 -- before the first text
@@ -197,6 +201,7 @@ has_root s = is_some (value_of (codes "server.document-root") (settings_of 0 s.b
 abbrev pub ends : Reply → Outcome
 ends (Went s []) = Ended (closes s (has_root s))
 ends (Stopped x []) = Ended (Err x)
+ends Short = Unended
 ends other = Astray
 
 -- what the first text comes to by what was fetched
@@ -209,7 +214,7 @@ roots library fetched.NoMemory s calls = Strayed
 
 -- the first text, of this name
 abbrev pub root : Library → Text → Part
-root library name s [] = Strayed
+root library name s [] = Short
 root library name s (c ∷ calls) = if bytes_eq c.name name then roots library (gives c.answer (library name) s.room) s calls else Strayed
 
 -- the load of the text of this name
