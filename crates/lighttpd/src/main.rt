@@ -7,11 +7,13 @@
 
 mod ending;
 mod explaining;
+mod help;
 mod named_texts;
 mod out_sink;
 
 use crate::ending::end;
 use crate::explaining::{explain, is_at_terminal};
+use crate::help::{asks_for_help, help};
 use crate::named_texts::NamedTexts;
 use crate::out_sink::OutSink;
 use files_disk::{DiskFiles, DiskTexts};
@@ -47,6 +49,9 @@ fn main(rt: HostRuntime) -> ExitCode {
         };
     }
     let code = end(&rt, status);
+    if status == Status::Usage && asks_for_help(&words) {
+        help(&rt);
+    }
     if is_at_terminal(&rt) {
         explain(&rt, texts, status);
     }
