@@ -53,10 +53,10 @@ def listed(readme: Path) -> tuple[str, int, list[str]]:
 def main() -> int:
     writes, faults, whole = sys.argv[1:] == ["write"], [], 0
     for crate in sorted((TOP / "crates").iterdir()):
-        # A program that measures or a crate of tests alone says nothing that is to be judged.
-        if not (crate / "specs").is_dir() or not list((crate / "specs").glob("*.antt")):
-            continue
         readme = crate / "README.md"
+        # A program that measures or a crate of tests alone says nothing that is to be judged.
+        if not list((crate / "specs").glob("*.antt")) and not (readme.is_file() and HEADING.search(readme.read_text())):
+            continue
         text, count, lacks = listed(readme)
         whole += count
         faults += lacks
