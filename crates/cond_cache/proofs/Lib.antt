@@ -2,3 +2,4 @@ pub mod Lists
 pub mod Standing
 pub mod Places
 pub mod Asked
+pub mod Documented

@@ -16,7 +16,7 @@ use Rattle.cond_cache.specs.declared.place.Place.TheVariants.{Unasked, Given, Ba
 use Rattle.cond_cache.specs.Truths.{above_by, decided, own, Standing, standing_of, standings, truth_at, branches_at, truth_of}
 use Rattle.cond_cache.specs.Kept.{AreRight, Comes, IsAbove, IsComparison, IsRight, groups_at, groups_by, groups_in, groups_of, has_rules, asked_from, kept, left_by, truth_in}
 use Rattle.cond_cache.proofs.Lists.{there, put_there, put_elsewhere}
-use Rattle.cond_cache.proofs.Standing.{stands, its, earlier, onward, goes_on, global_is, around, behind}
+use Rattle.cond_cache.proofs.Standing.{stands, its, onward, above_next, global_is, around, behind}
 
 -- ---- counts
 
@@ -103,20 +103,12 @@ module _ (a : Attributes) (config : Config) (form : IsInForm config) (places : L
   pub above_branch : (n m : ℕ) (t : Truth) (b : Block) → slice_get config.blocks n ≡ Some b → b.chain ≡ Some m → kept places m ≡ Some t
       → IsAbove config.blocks a n (option_and_then left_by (slice_get places m))
   above_branch n m t b is chain e s at =
-      let st = stands a config.blocks n b is in
       let h = behind config form n b is m chain in
       let sm = stands a config.blocks m h.branch h.is in
       let k = kept_as places m t e in
       let r = standing_of a sm.before h.branch in
       let i = its a config.blocks m h.branch sm in
-      let parents : truth_at st.before b.parent ≡ truth_at sm.before h.branch.parent =
-      around a config form n b is st ∙ ap (truth_at (standings config.blocks a)) (sym h.parent) ∙ sym (around a config form m h.branch h.is sm) in
-      let branches : branches_at st.before b.chain ≡ r.branches =
-      ap (branches_at st.before) chain ∙ ap (λ (o : Option Standing). unwrap_or (option_map (λ (s : Standing). s.branches) o) []) (earlier a config.blocks n b st m h.lower ∙ i) in
-      ap (λ (s : Standing). s.above) (same_Some _ _ (sym at ∙ its a config.blocks n b st))
-      ∙ ap (λ (t : Truth). above_by t (branches_at st.before b.chain)) parents
-      ∙ ap (above_by (truth_at sm.before h.branch.parent)) branches
-      ∙ goes_on (truth_at sm.before h.branch.parent) (branches_at sm.before h.branch.chain) (own h.branch.condition a)
+      above_next a config form n m b is chain s r at i
       ∙ right_left a h.branch r refl k.place t (right.each m h.branch r k.place h.is i k.is) k.truth
       ∙ ap (option_and_then left_by) (sym k.is)
 
@@ -246,7 +238,7 @@ checked a config form places right n p (Ok t) e = sym (truth_is a config form pl
 checked a config form places right n p (Err x) e = tt
 
 -- no other truth makes a block True
-abbrev order : Truth → ℕ
+abbrev pub order : Truth → ℕ
 order True = 0
 order False = 1
 order Unset = 2
@@ -257,7 +249,7 @@ never_decided (True ∷ earlier) e = let n : 1 ≡ 0 = ap order (same_Some False
 never_decided (Unset ∷ earlier) e = let n : 2 ≡ 0 = ap order (same_Some Unset True e) in absurd (omega (arith, n))
 never_decided (False ∷ earlier) e = never_decided earlier e
 
-never_above : (parent : Truth) (earlier : List Truth) → above_by parent earlier ≡ Some True → ⊥
+pub never_above : (parent : Truth) (earlier : List Truth) → above_by parent earlier ≡ Some True → ⊥
 never_above True earlier e = never_decided earlier e
 never_above False earlier e = let n : 1 ≡ 0 = ap order (same_Some False True e) in absurd (omega (arith, n))
 never_above Unset earlier e = let n : 2 ≡ 0 = ap order (same_Some Unset True e) in absurd (omega (arith, n))

@@ -173,3 +173,23 @@ module _ (a : Attributes) (config : Config) (form : IsInForm config) where
             outside st.before (omega (arith, e, st.number)) b.parent ∙ sym (ap (truth_at (standings config.blocks a)) p ∙ global_truth)
         by (suc m) e = ap (λ (o : Option Standing). unwrap_or (option_map (λ (s : Standing). s.truth) o) True)
             (earlier a config.blocks n b st b.parent (form.inner n b is (λ z. absurd (omega (arith, e, z)))).parent)
+
+  -- what comes before a branch's condition, by the branch before it
+  pub above_next : (n m : ℕ) (b : Block) (is : slice_get config.blocks n ≡ Some b) (chain : b.chain ≡ Some m) (s r : Standing)
+      → slice_get (standings config.blocks a) n ≡ Some s → slice_get (standings config.blocks a) m ≡ Some r
+      → s.above ≡ onward r.above (own (behind config form n b is m chain).branch.condition a)
+  above_next n m b is chain s r at before =
+      let st = stands a config.blocks n b is in
+      let h = behind config form n b is m chain in
+      let sm = stands a config.blocks m h.branch h.is in
+      let q = standing_of a sm.before h.branch in
+      let i = its a config.blocks m h.branch sm in
+      let parents : truth_at st.before b.parent ≡ truth_at sm.before h.branch.parent =
+      around n b is st ∙ ap (truth_at (standings config.blocks a)) (sym h.parent) ∙ sym (around m h.branch h.is sm) in
+      let branches : branches_at st.before b.chain ≡ q.branches =
+      ap (branches_at st.before) chain ∙ ap (λ (o : Option Standing). unwrap_or (option_map (λ (s : Standing). s.branches) o) []) (earlier a config.blocks n b st m h.lower ∙ i) in
+      ap (λ (s : Standing). s.above) (same_Some _ _ (sym at ∙ its a config.blocks n b st))
+      ∙ ap (λ (t : Truth). above_by t (branches_at st.before b.chain)) parents
+      ∙ ap (above_by (truth_at sm.before h.branch.parent)) branches
+      ∙ goes_on (truth_at sm.before h.branch.parent) (branches_at sm.before h.branch.chain) (own h.branch.condition a)
+      ∙ ap (λ (s : Standing). onward s.above (own h.branch.condition a)) (same_Some q r (sym i ∙ before))

@@ -1,2 +1,3 @@
 pub mod Truths
 pub mod Kept
+pub mod Documented
