@@ -19,7 +19,7 @@ use Rattle.conf_eval.specs.declared.fault.Loaded.{Loaded}
 use Rattle.conf_eval.specs.declared.halt.Wrong.{Wrong}
 use Rattle.conf_eval.specs.Settings.{State, sets}
 use Rattle.conf_eval.specs.Load as spec
-use Rattle.conf_eval.specs.Load.{include, Part, Reply, Went, Stopped, Strayed, goes_on, settles, gives, held_as, Ended}
+use Rattle.conf_eval.specs.Load.{include, Part, Reply, Went, Stopped, Short, Strayed, goes_on, settles, gives, held_as, Ended}
 use Rattle.conf_eval.specs.Outcomes.{NoneFailed, EndsUnread}
 use Rattle.conf_eval.proofs.Determined.{ended, Closed, Halted, same_or_unread}
 use Rattle.lt_commands.specs.declared.status.Status.{Status}
@@ -34,6 +34,7 @@ Sound P other = Unit {0}
 kept : (P Q : Type 0) (r : Reply) → (P → Q) → Sound P r → Sound Q r
 kept P Q (Went s calls) f h = λ n. f (h n)
 kept P Q (Stopped x calls) f h = tt
+kept P Q Short f h = tt
 kept P Q Strayed f h = tt
 
 abbrev IsSound : Part → Type 0
@@ -42,6 +43,7 @@ IsSound part = (s : State) (calls : List Fetch) → Sound (NoneFailed calls) (pa
 goes : (P : Type 0) (next : Part) → IsSound next → (r : Reply) → Sound P r → Sound P (goes_on r next)
 goes P next h (Went s calls) k = kept (NoneFailed calls) P (next s calls) k (h s calls)
 goes P next h (Stopped x calls) k = tt
+goes P next h Short k = tt
 goes P next h Strayed k = tt
 
 -- what is done with what was fetched, where a failure stops it

@@ -3,7 +3,7 @@ use Rattle.std.specs.Prelude.{◌≡◌, ℕ, List, None, Result, Ok, Err}
 use Rattle.lt_world.specs.declared.texts.Fetch.{Fetch}
 use Rattle.lt_world.specs.TextAnswers.{Library}
 use Rattle.conf_eval.specs.Load.{load, Outcome, Ended}
-use Rattle.conf_eval.specs.Answers.{with_calls}
+use Rattle.conf_eval.specs.Answers.{OnCourse, with_calls}
 use Rattle.conf_eval.specs.declared.fault.ConfFault.{ConfFault}
 use Rattle.conf_eval.specs.declared.fault.ConfKind.TheVariants as kind
 use Rattle.conf_eval.specs.declared.fault.LoadError.TheVariants as e
@@ -22,16 +22,17 @@ HasSomeConf library name = (loaded : Loaded) × HasConf library name loaded
 abbrev pub HasFault : Library → List ℕ → ConfFault → Type 0
 HasFault library name fault = (calls : List Fetch) × (load library name calls ≡ Ended (Err (e.Conf fault)))
 
--- how a load ends, as a status: text 1 is the configuration; where memory runs out, nothing is said
+-- how a load ends, as a status: text 1 is the configuration; where memory runs out, no call was another one
 abbrev pub EndsAs : Outcome → Result Loaded Status → Type 0
 EndsAs outcome (Ok loaded) = outcome ≡ Ended (Ok loaded)
 EndsAs outcome (Err (status.Conf fault)) = outcome ≡ Ended (Err (e.Conf fault))
 EndsAs outcome (Err (status.Missing number)) = (number ≡ 1) × (outcome ≡ Ended (Err e.RootMissing))
 EndsAs outcome (Err status.TextFault) = outcome ≡ Ended (Err e.RootFailed)
-EndsAs outcome (Err status.NoMemory) = Unit {0}
+EndsAs outcome (Err status.NoMemory) = OnCourse outcome
 EndsAs outcome (Err other) = ⊥
 
--- the calls that came are those of the load of the text of this name, in order, and the answer is how it ends by them
+-- The calls that came are those of the load of the text of this name, in order, and the answer is how it ends by them;
+-- where memory ran out, they are the first of them.
 pub record LoadsAs (result : Result Loaded Status) (name : List ℕ) (library : Library) (before after : List Fetch) : Type 0 where
   pub asked : List Fetch
   pub calls : after ≡ with_calls before asked
