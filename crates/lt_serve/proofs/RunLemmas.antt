@@ -20,8 +20,8 @@ use Rattle.server_core.specs.Table.{freed, all_freed}
 use Rattle.lt_serve.specs.Served.{told_at, ServesRight, IsGivenBack, Served}
 
 -- a turn more, by a server of the same configuration
-pub did : (site same : Site) (start : Told) (before after : Seen) (old now : List Entry) → same ≡ site → IsRun site start (told_at before old) → IsTurn same before after old now → IsRun site start (told_at after now)
-did site same start before after old now is run one = more run (subst (λ (s : Site). IsTurn s before after old now) is one)
+pub did : (site same : Site) (spare : ℕ) (start : Told) (before after : Seen) (old now : List Entry) → same ≡ site → IsRun site start (told_at before old) → IsTurn same spare before after old now → IsRun site start (told_at after now)
+did site same spare start before after old now is run one = more run (subst (λ (s : Site). IsTurn s spare before after old now) is one)
 
 -- nothing was told, and nothing is seen otherwise
 pub rested : (site : Site) (start : Told) (before after : Seen) (old now : List Entry) → IsRun site start (told_at before old) → after ≡ before → now ≡ old → IsRun site start (told_at after now)
