@@ -1,12 +1,12 @@
 #!/usr/bin/env python3
-"""Writes data/clients.script and data/clients.report: 200 clients with four pipelined requests each, and their replies.
+"""Writes data/clients.script and data/clients.report: 256 clients with four pipelined requests each, and their replies.
 
 Clients that a recurrence draws, one by one, send some bytes or take some, so that all requests come in pieces and mixed
 up; at the end each client sends what is left, takes what is left, and ends. The report is made from the requests alone.
 """
 import os
 
-CLIENTS, REQUESTS, ROUNDS = 200, 4, 6_000
+CLIENTS, REQUESTS, ROUNDS = 256, 4, 6_000
 DATA = os.path.join(os.path.dirname(os.path.abspath(__file__)), "data")
 
 
