@@ -1,7 +1,8 @@
 //! Plays the worked rows of `rows.txt`: calls of the program, each with the texts that it reads, and what it must
 //! answer. A line for each row says `ok` and its name, or what differed; the last line counts them. The head of that
 //! file says how a row is written.
-//! Stands on `lt_commands` for the call, on the memory forms of `lt_world`, and on `files_disk` for the file.
+//! Stands on `lt_commands` and `lt_serve` for the calls, on the memory forms of `lt_world`, on `lt_script` and `script_net`
+//! for the net of a script, and on `files_disk` for the file.
 #![tactic(auto)]
 
 mod bytes;
@@ -35,11 +36,11 @@ fn main(rt: HostRuntime) -> Result<()> {
     let mut number = 0u64;
     for line in file.bytes().split(|byte| *byte == b'\n') {
         number = number.wrapping_add(1);
-        if rows.take_line(&mut texts, line).is_err() {
+        if rows.take_line(&rt, &mut texts, line).is_err() {
             bail!("rows.txt: line {number} is no line of a row");
         }
     }
-    let differ = rows.finish()?;
+    let differ = rows.finish(&rt)?;
     writer(&rt).write_all(rows.report())?;
     if differ {
         bail!("not every row is ok");

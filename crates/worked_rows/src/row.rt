@@ -6,21 +6,42 @@ use crate::pieces::{Named, bytes_of};
 use anyhow::{Result, bail};
 use lt_bytes::Text;
 use lt_commands::{Status, offline};
+use lt_script::parse_script;
+use lt_serve::serve;
 use lt_world::{MemFiles, MemSink, MemTexts};
-use script_net::ScriptNet;
+use script_net::{ScriptNet, report};
 use std::alloc::Global;
+use std::sync::Wait;
 
 /// The words of a row that names none.
 const WORDS: &[u8] = b"replay -f CONF SCRIPT";
 
+/// The words of a server, where a row names none.
+const SERVER_WORDS: &[u8] = b"-f CONF";
+
+/// What a server puts out before its clients are served, where the configuration names no address.
+const LISTENING: &[u8] = b"listening on 0.0.0.0:80\n";
+
 /// The room of an output, where a row says nothing else.
 const ROOM: u64 = 1_048_576;
+
+/// By which call a row is played.
+#[derive(Clone, Copy)]
+enum By {
+    /// The one that needs no sockets.
+    Offline,
+    /// The one that serves, over the net and the files of the script.
+    Server,
+    /// A replay, and a server whose clients must get the same.
+    Both,
+}
 
 /// A call, the texts that it reads, and what it must answer.
 #[derive(Drop)]
 pub struct Row<'t> {
     alloc: Global,
     name: &'t [u8],
+    by: By,
     words: &'t [u8],
     conf: Text,
     /// The texts that configurations include.
@@ -43,6 +64,7 @@ impl<'t> Row<'t> {
         Ok(Row {
             alloc,
             name,
+            by: By::Offline,
             words: WORDS,
             conf,
             included: Vec::new(alloc),
@@ -62,6 +84,15 @@ impl<'t> Row<'t> {
         match key {
             b"words" => {
                 self.words = rest;
+                Ok(())
+            }
+            b"serve" => {
+                self.by = By::Server;
+                self.words = SERVER_WORDS;
+                Ok(())
+            }
+            b"both" => {
+                self.by = By::Both;
                 Ok(())
             }
             b"|" => self.push_script(rest),
@@ -179,12 +210,12 @@ impl<'t> Row<'t> {
         Ok(())
     }
 
-    /// Makes the call, and says in a line how it went. Whether it went as it must.
-    pub fn play(&self, report: &mut Text) -> Result<bool> {
-        if !self.plays(report, self.script.bytes())? {
+    /// Makes the calls, and says in a line how they went. Whether they went as they must.
+    pub fn play<R: Wait>(&self, rt: &R, report: &mut Text) -> Result<bool> {
+        if !self.plays(rt, report, self.script.bytes())? {
             return Ok(false);
         }
-        if self.sends && !self.plays(report, self.bytewise.bytes())? {
+        if self.sends && !self.plays(rt, report, self.bytewise.bytes())? {
             return Ok(false);
         }
         report.push_all(b"ok ")?;
@@ -192,13 +223,51 @@ impl<'t> Row<'t> {
         Ok(true)
     }
 
-    // Makes the call with this script, and says what differs, if something does.
-    fn plays(&self, report: &mut Text, script: &[u8]) -> Result<bool> {
-        let (status, output) = self.call(script)?;
+    // Makes the calls with this script, and says what differs, if something does.
+    fn plays<R: Wait>(&self, rt: &R, report: &mut Text, script: &[u8]) -> Result<bool> {
+        match self.by {
+            By::Offline => self.replays(report, script),
+            By::Server => self.serves(rt, report, script, self.words, self.output.bytes()),
+            By::Both => {
+                let mut output = Text::from_bytes(self.alloc, LISTENING)?;
+                output.push_all(self.output.bytes())?;
+                Ok(
+                    self.replays(report, script)?
+                        && self.serves(rt, report, script, SERVER_WORDS, output.bytes())?,
+                )
+            }
+        }
+    }
+
+    fn replays(&self, report: &mut Text, script: &[u8]) -> Result<bool> {
+        let (status, output) = self.call_offline(script)?;
+        self.is_right(report, status, output.bytes(), self.output.bytes())
+    }
+
+    fn serves<R: Wait>(
+        &self,
+        rt: &R,
+        report: &mut Text,
+        script: &[u8],
+        words: &[u8],
+        wanted: &[u8],
+    ) -> Result<bool> {
+        let (status, output) = self.call_server(rt, script, words)?;
+        self.is_right(report, status, output.bytes(), wanted)
+    }
+
+    // Whether a call ended and put out what it must. Says what differs, if something does.
+    fn is_right(
+        &self,
+        report: &mut Text,
+        status: Status,
+        output: &[u8],
+        wanted: &[u8],
+    ) -> Result<bool> {
         let says = status.to_string(self.alloc)?;
         let number = u64::from(status.exit_number());
         let ends = number == self.status && says.as_bytes() == self.says;
-        if ends && is_wanted(self.output.bytes(), output.bytes()) {
+        if ends && is_wanted(wanted, output) {
             return Ok(true);
         }
         report.push_all(b"differs ")?;
@@ -208,25 +277,17 @@ impl<'t> Row<'t> {
         report.push(b' ')?;
         push_quoted(report, says.as_bytes())?;
         report.push_all(b", output ")?;
-        push_quoted(report, output.bytes())?;
+        push_quoted(report, output)?;
         report.push_all(b", not ")?;
-        push_quoted(report, self.output.bytes())?;
+        push_quoted(report, wanted)?;
         report.push(b'\n')?;
         Ok(false)
     }
 
-    // The status and the output of the call, where CONF, SCRIPT and what is included name the row's texts.
-    fn call(&self, script: &[u8]) -> Result<(Status, Text)> {
-        let words = self.words()?;
-        let mut texts = MemTexts::new(self.alloc);
-        texts.add(b"CONF", self.conf.bytes())?;
-        texts.add(b"SCRIPT", script)?;
-        for text in &self.included {
-            texts.add(text.name, text.bytes.bytes())?;
-        }
-        if let Some(nth) = self.fails {
-            texts.plan(nth)?;
-        }
+    // The status and the output of the call that needs no sockets.
+    fn call_offline(&self, script: &[u8]) -> Result<(Status, Text)> {
+        let words = words_of(self.alloc, self.words)?;
+        let mut texts = self.texts(script)?;
         let mut net = ScriptNet::new(self.alloc);
         let mut files = MemFiles::new(self.alloc);
         let mut sink = MemSink::new(self.alloc, self.room)?;
@@ -236,17 +297,48 @@ impl<'t> Row<'t> {
         Ok((status, Text::from_bytes(self.alloc, sink.bytes())?))
     }
 
-    fn words(&self) -> Result<Vec<String>> {
-        let mut words = Vec::new(self.alloc);
-        for word in self.words.split(|byte| *byte == b' ') {
-            match str::from_utf8(word) {
-                Ok("") => {}
-                Ok(word) => words.push(String::from_str(self.alloc, word)?)?,
-                Err(_) => bail!("a word that is no text"),
-            }
-        }
-        Ok(words)
+    // The status of a server over the net and the files of the script, and its output with the report behind it.
+    fn call_server<R: Wait>(&self, rt: &R, script: &[u8], words: &[u8]) -> Result<(Status, Text)> {
+        let words = words_of(self.alloc, words)?;
+        let mut texts = self.texts(script)?;
+        let script = parse_script(self.alloc, script)?;
+        let mut net = ScriptNet::new(self.alloc);
+        let mut files = MemFiles::new(self.alloc);
+        net.load(&script, &mut files)?;
+        let mut sink = MemSink::new(self.alloc, self.room)?;
+        let status = serve(
+            rt, self.alloc, &words, &mut texts, &mut net, &mut files, &mut sink,
+        );
+        // Where the sink takes no more, the output is not what the row says.
+        let _reported = report(&net, &mut sink);
+        Ok((status, Text::from_bytes(self.alloc, sink.bytes())?))
     }
+
+    // The texts of the row, under the names CONF, SCRIPT and those of what is included.
+    fn texts(&self, script: &[u8]) -> Result<MemTexts> {
+        let mut texts = MemTexts::new(self.alloc);
+        texts.add(b"CONF", self.conf.bytes())?;
+        texts.add(b"SCRIPT", script)?;
+        for text in &self.included {
+            texts.add(text.name, text.bytes.bytes())?;
+        }
+        if let Some(nth) = self.fails {
+            texts.plan(nth)?;
+        }
+        Ok(texts)
+    }
+}
+
+fn words_of(alloc: Global, line: &[u8]) -> Result<Vec<String>> {
+    let mut words = Vec::new(alloc);
+    for word in line.split(|byte| *byte == b' ') {
+        match str::from_utf8(word) {
+            Ok("") => {}
+            Ok(word) => words.push(String::from_str(alloc, word)?)?,
+            Err(_) => bail!("a word that is no text"),
+        }
+    }
+    Ok(words)
 }
 
 fn push_line(text: &mut Text, line: &[u8]) -> Result<()> {

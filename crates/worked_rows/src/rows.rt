@@ -7,6 +7,7 @@ use anyhow::{Result, bail};
 use lt_bytes::Text;
 use lt_world::Texts;
 use std::alloc::Global;
+use std::sync::Wait;
 
 /// The texts that were named so far, the row that is being read, and how the rows before it went.
 #[derive(Drop)]
@@ -32,13 +33,18 @@ impl<'t> Rows<'t> {
     }
 
     /// Takes the next line of the file. The last row is played where another one begins.
-    pub fn take_line<X: Texts>(&mut self, texts: &mut X, line: &'t [u8]) -> Result<()> {
+    pub fn take_line<R: Wait, X: Texts>(
+        &mut self,
+        rt: &R,
+        texts: &mut X,
+        line: &'t [u8],
+    ) -> Result<()> {
         let (key, rest) = first_word(line);
         if line.is_empty() || key.starts_with(b"#") {
             return Ok(());
         }
         match key {
-            b"row" => self.begin(rest),
+            b"row" => self.begin(rt, rest),
             b"text" => {
                 let (name, pieces) = first_word(rest);
                 let bytes = bytes_of(self.alloc, &self.names, pieces)?;
@@ -58,8 +64,8 @@ impl<'t> Rows<'t> {
         }
     }
 
-    fn begin(&mut self, name: &'t [u8]) -> Result<()> {
-        self.play()?;
+    fn begin<R: Wait>(&mut self, rt: &R, name: &'t [u8]) -> Result<()> {
+        self.play(rt)?;
         let conf = self.base(b"K0")?;
         let script = self.base(b"S0")?;
         self.row = Some(Row::new(self.alloc, name, conf, script)?);
@@ -74,11 +80,11 @@ impl<'t> Rows<'t> {
         }
     }
 
-    fn play(&mut self) -> Result<()> {
+    fn play<R: Wait>(&mut self, rt: &R) -> Result<()> {
         let Some(row) = &self.row else {
             return Ok(());
         };
-        if row.play(&mut self.report)? {
+        if row.play(rt, &mut self.report)? {
             self.right = self.right.wrapping_add(1);
         } else {
             self.wrong = self.wrong.wrapping_add(1);
@@ -87,8 +93,8 @@ impl<'t> Rows<'t> {
     }
 
     /// Plays the last row, and counts them all. Whether one differed.
-    pub fn finish(&mut self) -> Result<bool> {
-        self.play()?;
+    pub fn finish<R: Wait>(&mut self, rt: &R) -> Result<bool> {
+        self.play(rt)?;
         push_number(&mut self.report, self.right)?;
         self.report.push_all(b" rows ok, ")?;
         push_number(&mut self.report, self.wrong)?;
