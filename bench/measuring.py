@@ -36,13 +36,10 @@ class Program:
         command = ["valgrind", *tool, self.path, *map(str, words)]
         return subprocess.run(command, capture_output=True, text=True, check=True).stderr
 
-    def instructions(self, *words, within=None):
-        """Instructions of one run, by callgrind: all of them, or those within calls of the functions whose names match."""
+    def instructions(self, *words):
+        """Instructions of one run, by callgrind."""
         with tempfile.TemporaryDirectory() as folder:
-            tool = ["--tool=callgrind", f"--callgrind-out-file={folder}/out"]
-            if within is not None:
-                tool.append(f"--toggle-collect={within}")
-            told = self.told(tool, words)
+            told = self.told(["--tool=callgrind", f"--callgrind-out-file={folder}/out"], words)
         return int(re.search(r"Collected : (\d+)", told).group(1))
 
     def allocations(self, *words):

@@ -8,16 +8,19 @@ time of a request. Then 256 connections that are open at once end, the oldest fi
 connection. The time of a script with no clients is taken off. Then bodies of 1 MiB are read, of a stated length and
 in chunks of 100 and of 4,096 bytes, and some of 64 KiB in chunks of 1: the time and the instructions of a byte of content.
 The time of the same script is taken off in which the client never arrives. Then a browser's request, and a byte of a head
-of 8,192 bytes that comes byte by byte: the instructions of the server's turns alone, without script and report.
+of 8,192 bytes that comes byte by byte: the instructions without those of the script. Each word of the command line is the
+top of another checkout whose program is measured too, as of an older state.
 
 Build first: cd crates/lighttpd && rt run -- replay -f ../../examples/hello.conf ../../examples/hello.script
 """
 import os
+import subprocess
 import sys
 import tempfile
 
-from measuring import Program
+from measuring import ROOT, Program
 
+HERE = os.path.dirname(os.path.abspath(__file__))
 SIZE = 1 << 20
 PIECE = 4096
 # The head is a write of its own.
@@ -41,8 +44,6 @@ BROWSER = (
 )
 # A head of the greatest length isn't whole before its last byte.
 SLOW_BYTES = 8_191
-# The function that serves an event, among the program's symbols.
-TURN = "*server_core*turn*"
 # A body is read much faster than its script, so its time takes many runs to find.
 REPLAYS_OF_BODIES = 16
 
@@ -97,24 +98,24 @@ def posted(chunk, size, arrives, posts=POSTS):
     return "\n".join(lines) + "\n"
 
 
-def browsed(requests):
+def browsed(requests, arrives):
     """A browser's requests on one connection, one behind the other, each answered by a head and a file of five bytes."""
-    lines = ["lighttpd-script 1", 'file "/srv/index.html" 0 "hello"', "accept 10.0.0.5:40000 127.0.0.1:80"]
+    lines = ["lighttpd-script 1", 'file "/srv/index.html" 0 "hello"'] + ["accept 10.0.0.5:40000 127.0.0.1:80"] * arrives
     lines += [f'data c0 "{BROWSER}"', f"take c0 {PIECE} 1", f"take c0 {PIECE} 1"] * requests
     return "\n".join(lines) + "\n"
 
 
-def slow(size):
+def slow(size, arrives):
     """A head of one line that comes byte by byte, and isn't whole."""
-    lines = ["lighttpd-script 1", "accept 10.0.0.5:40000 127.0.0.1:80"] + ['data c0 "a"'] * size
+    lines = ["lighttpd-script 1"] + ["accept 10.0.0.5:40000 127.0.0.1:80"] * arrives + ['data c0 "a"'] * size
     return "\n".join(lines) + "\n"
 
 
 class Replays:
     """The built server, with a configuration and a script in a folder."""
 
-    def __init__(self, folder):
-        self.server = Program("lighttpd")
+    def __init__(self, folder, top):
+        self.server = Program("lighttpd", top)
         self.conf = os.path.join(folder, "conf")
         self.script = os.path.join(folder, "script")
         with open(self.conf, "w") as f:
@@ -137,8 +138,8 @@ class Replays:
         seconds, memory = self.runs(text, times)
         return min(seconds), memory
 
-    def instructions(self, text, within=None):
-        return self.server.instructions(*self.words(text), within=within)
+    def instructions(self, text):
+        return self.server.instructions(*self.words(text))
 
 
 def time_writes(replays, empty, base):
@@ -202,15 +203,17 @@ def time_bodies(replays):
 
 
 def count_requests(replays):
-    """The instructions of a browser's request, and of a byte of a slow head, within the server's turns."""
-    for name, text, few, many in [("a browser's request", browsed, 10, 110), ("a byte of a slow head", slow, 1, SLOW_BYTES)]:
-        done = [replays.instructions(text(n), within=TURN) for n in (few, many)]
-        print(f"{name}: {(done[1] - done[0]) / (many - few):.0f} instructions")
+    """The instructions of a browser's request, and of a byte of a slow head: events, turns and report, without the script."""
+    for name, text, few, many in [("a browser's request", browsed, 10, 90), ("a byte of a slow head", slow, 1, SLOW_BYTES)]:
+        served, skipped = ([replays.instructions(text(n, arrives)) for n in (few, many)] for arrives in (True, False))
+        done = (served[1] - served[0]) - (skipped[1] - skipped[0])
+        print(f"{name}: {done / (many - few):.0f} instructions")
 
 
-def main():
+def measure(top):
+    """Measures the program of a checkout, and answers how its times grow."""
     with tempfile.TemporaryDirectory() as folder:
-        replays = Replays(folder)
+        replays = Replays(folder, top)
         empty, base = replays.best(script(0), 10)
         print(f"no client: {empty * 1000:.1f} ms, {base >> 20} MiB")
         growth = time_writes(replays, empty, base)
@@ -218,6 +221,17 @@ def main():
         endings = time_endings(replays, empty)
         chunked = time_bodies(replays)
         count_requests(replays)
+    return growth, ratio, endings, chunked
+
+
+def main():
+    for top in sys.argv[1:]:
+        print(top, flush=True)
+        # In a process of its own: the greatest memory of a child is never below that of the process that starts it.
+        subprocess.run([sys.executable, "-c", f"import sys; sys.path[0] = {HERE!r}; import replay; replay.measure({top!r})"], check=True)
+    if sys.argv[1:]:
+        print(ROOT)
+    growth, ratio, endings, chunked = measure(ROOT)
     if growth >= 1.5:
         sys.exit("a write takes half as long again with many clients")
     if ratio >= 1.5:
@@ -228,4 +242,5 @@ def main():
         sys.exit("a byte of a body in large chunks takes more than twice as long as one of a stated length")
 
 
-main()
+if __name__ == "__main__":
+    main()
