@@ -1,5 +1,6 @@
-//! Plays a script with pipelined requests, a body in chunks and a write that fails, and counts the server's buffers after
-//! each turn: those that are spare and those in queues are all that were made, and none is in a queue at the end.
+//! Plays a script with pipelined requests, a body in chunks, a write that fails and a head that comes byte by byte, and
+//! counts the server's buffers after each turn: those that are spare and those in queues are all that were made, there
+//! are always some that are spare, and none is in a queue at the end.
 //! Then the report is held against the one that is wanted, line by line. Where memory runs out a client may be closed
 //! with a front of its replies; the program ends with status 1 then, and says what was lost if anything was.
 //! `bench/refused.py` runs it with each request for memory refused in turn.
@@ -40,6 +41,10 @@ fn main(rt: HostRuntime) -> Result<()> {
         Counts::NoMemory => bail!("out of memory"),
         Counts::Lost { turn } => {
             out.write_all(b"a buffer was lost\n")?;
+            bail!("in turn {turn}");
+        }
+        Counts::Few { turn } => {
+            out.write_all(b"too few buffers are spare\n")?;
             bail!("in turn {turn}");
         }
         Counts::Kept { left } => {

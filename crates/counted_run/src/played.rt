@@ -12,6 +12,9 @@ use std::alloc::Global;
 /// The most turns of a run.
 const TURN_LIMIT: u64 = 100_000;
 
+/// As many spare buffers, and a read that completes no head wants no memory.
+const ENOUGH: u64 = 2;
+
 /// How the buffers of a run were counted.
 #[derive(Clone, Copy, Debug, PartialEq, Eq)]
 pub enum Counts {
@@ -19,6 +22,8 @@ pub enum Counts {
     Kept { left: u64 },
     /// Not all of them after this turn.
     Lost { turn: u64 },
+    /// After this turn fewer were spare than a read may need.
+    Few { turn: u64 },
     /// The net had no memory for its next event.
     NoMemory,
 }
@@ -68,6 +73,9 @@ fn counted<N: Net, F: Files>(server: &mut Server<'_>, net: &mut N, files: &mut F
         let held = server.held();
         if held.free + held.queued != held.made {
             return Counts::Lost { turn };
+        }
+        if held.free < ENOUGH {
+            return Counts::Few { turn };
         }
     }
     Counts::Lost { turn: TURN_LIMIT }
