@@ -16,3 +16,6 @@ pub use choices::Choices;
 pub use next::Next;
 pub use rewriting::{Rewritten, rewrite};
 pub use rules::Rules;
+
+#[cfg(test)]
+mod tests;
