@@ -39,9 +39,11 @@ fn plant_one(alloc: Global, file: &ScriptFile, files: &mut MemFiles) -> Result<(
 }
 
 /// Plans the faults of a script that are of files: of a path that is looked up, and of a file that is opened or read.
-/// Where memory is wanted, some of them may be planned.
+/// Where memory is wanted, some of them may be planned. No call is made of the files.
 pub fn plan_files(faults: &[ScriptFault], files: &mut MemFiles) -> Result<(), NoMemory>
-    ensures { OnOk result (files.new ≡ faulted faults.now files.old) }
+    ensures planned { OnOk result (files.new ≡ faulted faults.now files.old) }
+    ensures rest { files.new ≡ record files.old { find_plan = files.new.find_plan; open_plan = files.new.open_plan; read_plan = files.new.read_plan } }
+    ensures uncounted { files.new.read_plan.made ≡ files.old.read_plan.made }
 {
     for fault in faults {
         plan_one(*fault, files)?;
@@ -50,7 +52,9 @@ pub fn plan_files(faults: &[ScriptFault], files: &mut MemFiles) -> Result<(), No
 }
 
 fn plan_one(fault: ScriptFault, files: &mut MemFiles) -> Result<(), NoMemory>
-    ensures { OnOk result (files.new ≡ with_fault fault.call fault.nth files.old) }
+    ensures planned { OnOk result (files.new ≡ with_fault fault.call fault.nth files.old) }
+    ensures rest { files.new ≡ record files.old { find_plan = files.new.find_plan; open_plan = files.new.open_plan; read_plan = files.new.read_plan } }
+    ensures uncounted { files.new.read_plan.made ≡ files.old.read_plan.made }
 {
     match fault.call {
         FaultCall::Find => files.plan(FileCall::Find, fault.nth),
