@@ -1,5 +1,5 @@
 -- How clients are closed where no line of a script makes a read or a write fail.
-use Rattle.std.proofs.Common.{◌≡◌, ℕ, List, [], ◌∷◌, Bool, true, false, ◌&&◌, ◌||◌, ◌==◌, if◌then◌else◌, refl, sym, ap, subst, ◌∙◌}
+use Rattle.std.proofs.Common.{◌≡◌, ℕ, ◌<◌, arith, List, [], ◌∷◌, Bool, true, false, ◌&&◌, ◌||◌, ◌==◌, if◌then◌else◌, refl, sym, ap, subst, ◌∙◌}
 use Rattle.std.specs.List.{list_any}
 use Rattle.lt_world.specs.Acts.{is_deed}
 use Rattle.lt_world.specs.declared.net.Ending.{Ending}
@@ -16,6 +16,7 @@ use Rattle.server_model.specs.Site.{Site}
 use Rattle.server_model.specs.Deeds.{Deed, Ours, own, ours}
 use Rattle.server_model.specs.Client.{has_failed}
 use Rattle.server_model.specs.Causes.{IsCause}
+use Rattle.server_model.proofs.Endings.{cause_stays}
 use Rattle.lt_commands.specs.Runs.{Asked, Served}
 use Rattle.lt_commands.specs.Endings.{IsCalmEnding, AllEndCalmly}
 
@@ -52,9 +53,12 @@ calm_cause ending.FileFault deeds sound cause = absurd cause
 calm_cause ending.GatewayCut deeds sound cause = absurd cause
 calm_cause ending.Gate deeds sound cause = absurd cause
 
--- a run over a net that began with calm steps
-pub calm_run : (site : Site) (tree : Tree) (left : Asked) (said : Script) (a b : Playing) → a ≡ prepared said → IsLater a b → IsCalm said.steps → Served site tree left b.game.trace → AllEndCalmly b.game.trace
-calm_run site tree left said a b begins later calm served link e is =
+none_failed : (n : ℕ) → n ≡ 0 → 0 < n → ⊥
+none_failed n none some = grind (arith, none, some)
+
+-- a run over a net that began with calm steps, where no call on the files failed
+pub calm_run : (site : Site) (tree : Tree) (left : Asked) (said : Script) (a b : Playing) → a ≡ prepared said → IsLater a b → IsCalm said.steps → left.faults ≡ 0 → Served site tree left b.game.trace → AllEndCalmly b.game.trace
+calm_run site tree left said a b begins later calm unfailed_files served link e is =
     let same : b.game ≡ played later.calls (prepared said).game = later.plays ∙ ap (λ (p : Playing). played later.calls p.game) begins in
     let none : NoneFailed b.game.trace = subst (λ (g : Game). NoneFailed g.trace) (sym same) (calm_never_fails said.steps later.calls calm) in
-    calm_cause e (own link b.game.trace) (unfailed link b.game.trace none) (served.caused link e is)
+    calm_cause e (own link b.game.trace) (unfailed link b.game.trace none) (cause_stays e (own link b.game.trace) (0 < left.faults) ⊥ (none_failed left.faults unfailed_files) (served.caused link e is))

@@ -3,6 +3,7 @@ mod WordsLemmas
 mod LoadLemmas
 mod WarningLemmas
 mod RunLemmas
+mod PlannedLemmas
 mod CalmLemmas
 mod AskingLemmas
 mod ServingLemmas

@@ -1,5 +1,5 @@
 -- A run, turn by turn.
-use Rattle.std.proofs.Common.{◌≡◌, ℕ, List, [], ◌∷◌, arith, ap, refl, sym, subst, ◌∙◌, inl, inr}
+use Rattle.std.proofs.Common.{◌≡◌, ℕ, ◌<◌, ◌≤◌, List, [], ◌∷◌, arith, ap, refl, sym, subst, ◌∙◌, inl, inr}
 use Rattle.std.specs.Prelude.{Option, Some, None}
 use Rattle.lt_world.specs.Acts.{ending_of}
 use Rattle.lt_world.specs.declared.files.Call.{Call}
@@ -73,9 +73,8 @@ undue site tree = record {
   run = none;
   trace_is = refl;
   calls_are = refl;
-  faults_are = refl;
+  faults_are = omega arith;
   reads_are = refl;
-  calm = refl;
 }
 
 -- the same of a run that was not begun
@@ -89,14 +88,15 @@ pub served_as : (site other : Site) (tree wood : Tree) (left : Asked) (trace : L
 served_as site other tree wood left trace served site_is tree_is =
     subst (λ (t : Tree). Served other t left trace) tree_is (subst (λ (s : Site). Served s tree left trace) site_is served)
 
-unrisen : (before now : ℕ) → before ≡ 0 → now ≡ 0 → Rose before now → ⊥
-unrisen before now first last rose = grind (arith, first, last, rose)
+-- a count that rose from none and didn't fall is above none
+risen : (before now last : ℕ) → before ≡ 0 → now ≤ last → Rose before now → 0 < last
+risen before now last first still rose = grind (arith, first, still, rose)
 
 -- a run after which the server serves, over a tree that stays
 pub serves_all : (disk start : Disk) (server : Serving) (site : Site) (tree : Tree) (left : Asked) (faults now_faults : ℕ) (reads now_reads : Reads) (old trace : List Entry)
-    → old ≡ [] → faults ≡ 0 → now_faults ≡ faults → start.tree ≡ tree → start.calls ≡ [] → reads ≡ (asked_of no_files).reads → Serves disk server trace → server.site ≡ site → disk.tree ≡ tree → disk.calls ≡ left.calls → now_faults ≡ left.faults → now_reads ≡ left.reads
+    → old ≡ [] → faults ≡ 0 → start.tree ≡ tree → start.calls ≡ [] → reads ≡ (asked_of no_files).reads → Serves disk server trace → server.site ≡ site → disk.tree ≡ tree → disk.calls ≡ left.calls → now_faults ≤ left.faults → now_reads ≡ left.reads
     → IsRun site (told_as start faults reads old) (told_as disk now_faults now_reads trace) → Served site tree left trace
-serves_all disk start server site tree left faults now_faults reads now_reads old trace untold unfailed calm start_tree uncalled unread serves site_is tree_is calls_are faults_are reads_are run = record {
+serves_all disk start server site tree left faults now_faults reads now_reads old trace untold unfailed start_tree uncalled unread serves site_is tree_is calls_are faults_are reads_are run = record {
   right = serves_right disk server trace site tree left.calls serves site_is tree_is calls_are;
   due = record {
     first = told_as start faults reads old;
@@ -111,10 +111,9 @@ serves_all disk start server site tree left faults now_faults reads now_reads ol
     calls_are = calls_are;
     faults_are = faults_are;
     reads_are = reads_are;
-    calm = calm;
   };
   caused = λ link e is. elim (run_ends site (told_as start faults reads old) (told_as disk now_faults now_reads trace) run link e is) [
     | inl was ↦ absurd (cc (ap (λ (t : List Entry). ending_of (ours (own link t))) untold, was))
-    | inr cause ↦ cause_stays e (own link trace) (Rose faults now_faults) ⊥ (unrisen faults now_faults unfailed (calm ∙ unfailed)) cause
+    | inr cause ↦ cause_stays e (own link trace) (Rose faults now_faults) (0 < left.faults) (risen faults now_faults left.faults unfailed faults_are) cause
   ];
 }

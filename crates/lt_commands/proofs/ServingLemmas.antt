@@ -1,5 +1,5 @@
 -- What a call means for its clients, where it made no run, and where it made one.
-use Rattle.std.proofs.Common.{◌≡◌, ℕ, List, [], refl, sym, subst}
+use Rattle.std.proofs.Common.{◌≡◌, ℕ, List, [], ap, refl, sym, subst}
 use Rattle.std.specs.Prelude.{Err}
 use Rattle.lt_world.specs.Memory.{no_files, tree_of}
 use Rattle.lt_world.specs.Trace.{Entry}
@@ -17,6 +17,7 @@ use Rattle.lt_commands.specs.Reading.{ReadCause}
 use Rattle.lt_commands.specs.Runs.{Asked, asked_of}
 use Rattle.lt_commands.specs.Serving.{ServesBy, ServesSome}
 use Rattle.lt_commands.proofs.RunLemmas.{unserved}
+use Rattle.lt_commands.proofs.PlannedLemmas.{nothing_failed}
 
 abbrev no_script : Script
 no_script = record { files = []; faults = []; steps = [] }
@@ -32,7 +33,9 @@ none_closed link e is = absurd (cc is)
 pub unrun : (loaded : Loaded) (said : Script) (answer : Status) (left : Asked) (trace : List Entry) → left ≡ asked_of no_files → trace ≡ [] → (answer ≡ status.Done → Plays said.steps trace []) → ServesBy loaded said answer left trace
 unrun loaded said answer left trace uncalled untold plays = record {
   served = unserved (site_at loaded.config.blocks) (planted said.files (tree_of no_files)) left trace uncalled untold;
-  calm = λ calm. subst AllEndCalmly (sym untold) none_closed;
+  planned = nothing_failed said.faults left uncalled;
+  sound = λ none. ap (λ (a : Asked). a.faults) uncalled;
+  calm = λ calm none. subst AllEndCalmly (sym untold) none_closed;
   plays = plays;
 }
 

@@ -5,6 +5,7 @@ pub mod Explaining
 pub mod Fetching
 pub mod Loading
 pub mod Offline
+pub mod Planned
 pub mod Printing
 pub mod Reading
 pub mod Runs

@@ -1,5 +1,5 @@
 -- How a run finishes, and what it means for each client.
-use Rattle.std.specs.Prelude.{◌≡◌, ℕ, List, [], Some}
+use Rattle.std.specs.Prelude.{◌≡◌, ℕ, ◌<◌, ◌≤◌, List, [], Some}
 use Rattle.lt_world.specs.Acts.{ending_of}
 use Rattle.lt_world.specs.declared.net.NextKind.{NextKind}
 use Rattle.lt_world.specs.declared.net.NextKind.TheVariants as kind
@@ -35,6 +35,11 @@ pub record Asked : Type 0 where
 abbrev pub asked_of : Stored → Asked
 asked_of files = record { calls = files.calls; faults = files.faults; reads = reads_of files }
 
+-- files that were asked for nothing, whatever is planned
+pub record AreFresh (files : Stored) : Type 0 where
+  pub unasked : asked_of files ≡ asked_of no_files
+  pub unopened : files.opened ≡ []
+
 -- each client took a prefix of the stream that the site, the tree, its own deeds and the calls on files for it alone
 -- determine, and all of it where it was closed clean
 abbrev pub ServesRight : Site → Tree → List Call → List Entry → Type 0
@@ -52,13 +57,11 @@ pub record RunsDue (site : Site) (tree : Tree) (left : Asked) (trace : List Entr
   pub run : IsRun site first final
   pub trace_is : final.trace ≡ trace
   pub calls_are : final.seen.disk.calls ≡ left.calls
-  pub faults_are : final.seen.faults ≡ left.faults
+  pub faults_are : final.seen.faults ≤ left.faults
   pub reads_are : final.seen.reads ≡ left.reads
-  -- no call on the files failed
-  pub calm : final.seen.faults ≡ first.seen.faults
 
--- what a run from a fresh server over a fresh net keeps for its clients; each is closed for a cause, and none for a file's fault
+-- what a run from a fresh server over a fresh net keeps for its clients; each is closed for a cause, and for a file's fault only where a call on the files failed
 pub record Served (site : Site) (tree : Tree) (left : Asked) (trace : List Entry) : Type 0 where
   pub right : ServesRight site tree left.calls trace
   pub due : RunsDue site tree left trace
-  pub caused : (link : ℕ) (e : Ending) → ending_of (ours (own link trace)) ≡ Some e → IsCause e (ours (own link trace)) ⊥
+  pub caused : (link : ℕ) (e : Ending) → ending_of (ours (own link trace)) ≡ Some e → IsCause e (ours (own link trace)) (0 < left.faults)

@@ -17,15 +17,18 @@ use Rattle.lt_commands.specs.Endings.{AllEndCalmly}
 use Rattle.lt_commands.specs.Offline.{SinkSays}
 use Rattle.lt_commands.specs.Loading.{HasConf}
 use Rattle.lt_commands.specs.Reading.{HasScript}
+use Rattle.lt_commands.specs.Planned.{AreNotOfFiles, FailsAsPlanned}
 use Rattle.lt_commands.specs.Runs.{Asked, Served}
 use Rattle.lt_commands.specs.Words.{Replay, SpellsLine}
 
--- with this configuration and this script each client was served right, and what was due followed each event; where no
--- line of the script makes a read or a write fail, each client that was closed was closed calmly; and a call that was
--- done has played the script to its end
+-- with this configuration and this script each client was served right, and what was due followed each event; calls on
+-- the files failed as the script plans it, so none where it plans none; where besides no line of it makes a read or a
+-- write fail, each client that was closed was closed calmly; and a call that was done has played the script to its end
 pub record ServesBy (loaded : Loaded) (said : Script) (answer : Status) (left : Asked) (trace : List Entry) : Type 0 where
   pub served : Served (site_at loaded.config.blocks) (planted said.files (tree_of no_files)) left trace
-  pub calm : IsCalm said.steps → AllEndCalmly trace
+  pub planned : FailsAsPlanned said.faults left
+  pub sound : AreNotOfFiles said.faults → left.faults ≡ 0
+  pub calm : IsCalm said.steps → AreNotOfFiles said.faults → AllEndCalmly trace
   pub plays : answer ≡ status.Done → Plays said.steps trace []
 
 -- there are a configuration in form and a script for which that holds

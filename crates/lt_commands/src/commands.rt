@@ -1,8 +1,9 @@
 //! The work that needs no sockets: a replay, the check of a configuration, and its printed form.
-ghost use Rattle.std.specs.Prelude.{◌≡◌, ◌≤◌, ◌++◌, ℕ, List, [], None, map, string_bytes};
+ghost use Rattle.std.specs.Prelude.{◌≡◌, ◌≤◌, ◌++◌, ℕ, List, [], None, map, string_bytes, OnOk};
 ghost use Rattle.lt_world.specs.Disk.{Disk};
 ghost use Rattle.lt_world.specs.Memory.{no_files, tree_of};
 ghost use Rattle.lt_world.specs.Causes.{Rose};
+ghost use Rattle.lt_world.specs.FileRuns.{Leads};
 ghost use Rattle.script_net.specs.Loads.{planted};
 ghost use Rattle.script_net.specs.Playing.{unplayed, prepared, IsLater};
 ghost use Rattle.script_net.specs.Steps.{events_left};
@@ -10,12 +11,14 @@ ghost use Rattle.script_net.specs.Plays.{Plays};
 ghost use Rattle.script_net.specs.Failing.{IsCalm};
 ghost use Rattle.script_net.specs.Reports.{report_of};
 ghost use Rattle.lt_script.specs.declared.script.Script.{Script};
+ghost use Rattle.lt_script.specs.Texts.{Spells};
 ghost use Rattle.conf_parse.specs.declared.tree.Tree.{Tree};
 ghost use Rattle.conf_parse.specs.Print.{printed};
 ghost use Rattle.server_model.specs.Files.{IsTable, Backs};
 ghost use Rattle.server_model.specs.Serves.{Serves};
 ghost use Rattle.server_core.specs.Within.{serving_at};
-ghost use Rattle.lt_commands.specs.Runs.{FinishFits, Served, asked_of};
+ghost use Rattle.lt_commands.specs.Planned.{ArePlanned};
+ghost use Rattle.lt_commands.specs.Runs.{AreFresh, FinishFits, Served, asked_of};
 ghost use Rattle.lt_commands.specs.Endings.{AllEndCalmly};
 ghost use Rattle.lt_commands.specs.Words.{Line, SpellsLine, Replay as replay_line};
 ghost use Rattle.lt_commands.specs.Loading.{HasConf, HasSomeConf};
@@ -34,8 +37,10 @@ use crate::status::Status;
 use crate::warnings::load_warned;
 use crate::words::{Call, read_words};
 use conf_parse::print;
+use lt_bytes::NoMemory;
+use lt_script::Script;
 use lt_world::{MemFiles, Sink, Texts};
-use script_net::{ScriptNet, report, write_all};
+use script_net::{ScriptNet, plan_files, report, write_all};
 use server_core::Server;
 use std::alloc::Global;
 
@@ -126,13 +131,29 @@ fn replay<X: Texts, S: Sink>(
         Ok(script) => script,
         Err(status) => return status,
     };
-    if net.load(&script, files).is_err() {
+    if begin(&script, net, files).is_err() {
         return Status::NoMemory;
     }
     match Server::new(alloc, &loaded.config) {
         Ok(server) => play(server, net, files, sink),
         Err(_) => Status::NoMemory,
     }
+}
+
+// Puts a script where it plays: its steps into the net, its files into memory, with the faults that it plans for them.
+fn begin(script: &Script, net: &mut ScriptNet, files: &mut MemFiles) -> Result<(), NoMemory>
+    requires net { net.old ≡ unplayed [] }
+    requires files { files.old ≡ no_files }
+    requires spelled { (bytes : List ℕ) × Spells bytes script.now }
+    ensures plays { OnOk result (net.new ≡ prepared script.now) }
+    ensures untold { net.new.game.trace ≡ [] }
+    ensures unasked { net.new.last ≡ net.old.last }
+    ensures tree { OnOk result (tree_of files.new ≡ planted script.now.files (tree_of no_files)) }
+    ensures planned { OnOk result (ArePlanned script.now.faults files.new) }
+    ensures fresh { AreFresh files.new }
+{
+    net.load(script, files)?;
+    plan_files(script.faults.as_slice(), files)
 }
 
 // Serves the clients of a script that was loaded, and reports what they took.
@@ -142,14 +163,15 @@ fn play<S: Sink>(
     files: &mut MemFiles,
     sink: &mut S,
 ) -> Status
-    requires fresh { files.old ≡ record no_files { places = files.old.places } }
+    requires fresh { AreFresh files.old }
     requires begins { net.old.game.trace ≡ [] }
     requires table { (links : ℕ) → IsTable links server.table }
     requires backs { (disk : Disk) → Backs disk.table server.table }
     requires serves { (disk : Disk) → disk.calls ≡ [] → ((file : ℕ) → disk.table file ≡ None) → Serves disk (serving_at server) [] }
     ensures serves { Served server.entry.site (tree_of files.old) (asked_of files.new) net.new.game.trace }
     ensures ends { PlaySays result net.new.last }
-    ensures calm { (said : Script) → net.old ≡ prepared said → IsCalm said.steps → AllEndCalmly net.new.game.trace }
+    ensures leads { Leads files.old files.new }
+    ensures calm { (said : Script) → net.old ≡ prepared said → IsCalm said.steps → files.new.faults ≡ 0 → AllEndCalmly net.new.game.trace }
     ensures plays { (said : Script) → net.old ≡ prepared said → result ≡ Status.Done → Plays said.steps net.new.game.trace [] }
     ensures report { S.tells → SinkSays result (report_of net.new.game.trace) (S.bytes sink.old) (S.bytes sink.new) }
     ensures cause { result ≡ Status.SinkFault → Rose (S.faults sink.old) (S.faults sink.new) }
@@ -165,13 +187,14 @@ fn play<S: Sink>(
 
 // Takes turns until the net is over, and ends the server.
 fn serve(server: Server<'_>, net: &mut ScriptNet, files: &mut MemFiles) -> Finish
-    requires fresh { files.old ≡ record no_files { places = files.old.places } }
+    requires fresh { AreFresh files.old }
     requires begins { net.old.game.trace ≡ [] }
     requires table { (links : ℕ) → IsTable links server.table }
     requires backs { (disk : Disk) → Backs disk.table server.table }
     requires serves { (disk : Disk) → disk.calls ≡ [] → ((file : ℕ) → disk.table file ≡ None) → Serves disk (serving_at server) [] }
     ensures serves { Served server.entry.site (tree_of files.old) (asked_of files.new) net.new.game.trace }
     ensures last { FinishFits result net.new.last }
+    ensures leads { Leads files.old files.new }
     ensures over { result ≡ Finish.Over → events_left net.new.game.left ≡ 0 }
     ensures later { IsLater net.old net.new }
 {

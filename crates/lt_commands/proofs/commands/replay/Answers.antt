@@ -1,14 +1,16 @@
-use Rattle.std.proofs.Common.{rules, ◌≡◌, ℕ, List, ap, sym, subst, ◌∙◌}
+use Rattle.std.proofs.Common.{rules, ◌≡◌, ℕ, List, ap, refl, sym, subst, ◌∙◌}
 use Rattle.std.specs.Prelude.{Option, Err}
 use Rattle.lt_script.specs.declared.script.Script.{Script}
 use Rattle.script_net.specs.Playing.{prepared, Playing}
-use Rattle.lt_world.specs.Memory.{Stored, tree_of, no_files}
+use Rattle.lt_world.specs.Memory.{tree_of, no_files}
 use Rattle.script_net.specs.Loads.{planted}
 use Rattle.conf_eval.specs.declared.fault.Loaded.{Loaded}
 use Rattle.lt_commands.specs.declared.status.Status.TheVariants as status
 use Rattle.lt_commands.specs.Reading.{ScriptSays}
 use Rattle.lt_commands.proofs.OfflineLemmas.{play_says, play_complete, conf_says, script_says, is_complete, is_complete_load, complete_load}
 use Rattle.lt_commands.specs.Serving.{ServesBy}
+use Rattle.lt_commands.specs.Planned.{ArePlanned, FailsAsPlanned}
+use Rattle.lt_commands.proofs.PlannedLemmas.{none_fails}
 use Rattle.lt_commands.proofs.RunLemmas.{served_as}
 use Rattle.lt_commands.proofs.ServingLemmas.{unrun, unserved_some, undone, served_for}
 use Rattle.lt_commands.proofs.AskingLemmas.{conf_asks, script_asks, loaded_asks, play_asks}
@@ -60,59 +62,49 @@ returns-in-Err-read_script-clause-spelled g c told loaded said has held =
     (λ done. absurd (undone Script c.in-Err-read_script.status _ _ c.in-Err-read_script.ensures.cause done))
 
 pub returns-then-is_err-clause-serves : goal.returns-then-is_err-clause-serves
-returns-then-is_err-clause-serves g c =
-    let kept : c.load.new.self ≡ c.args.net.now = search rules in
-    unserved_some status.NoMemory _ _ (ap asked_of c.load.ensures.rest ∙ ap asked_of c.requires.files) (ap (λ (p : Playing). p.game.trace) (kept ∙ c.requires.net))
+returns-then-is_err-clause-serves g c = unserved_some status.NoMemory _ _ c.begin.ensures.fresh.unasked c.begin.ensures.untold
 
 pub returns-then-is_err-clause-spelled : goal.returns-then-is_err-clause-spelled
-returns-then-is_err-clause-spelled g c told loaded said has held =
-    let kept : c.load.new.self ≡ c.args.net.now = search rules in
-    unrun loaded said status.NoMemory _ _ (ap asked_of c.load.ensures.rest ∙ ap asked_of c.requires.files) (ap (λ (p : Playing). p.game.trace) (kept ∙ c.requires.net))
-    (λ done. absurd (cc done))
+returns-then-is_err-clause-spelled g c told loaded said has held = unrun loaded said status.NoMemory _ _ c.begin.ensures.fresh.unasked c.begin.ensures.untold (λ done. absurd (cc done))
 
 pub returns-clause-serves : goal.returns-clause-serves
-returns-clause-serves g c =
-    let loaded : c.load.new.self ≡ prepared c.in-Ok-read_script.script = search rules in
-    unserved_some status.NoMemory _ _ (ap asked_of c.load.ensures.rest ∙ ap asked_of c.requires.files) (ap (λ (p : Playing). p.game.trace) loaded)
+returns-clause-serves g c = unserved_some status.NoMemory _ _ c.begin.ensures.fresh.unasked c.begin.ensures.untold
 
 pub returns-clause-spelled : goal.returns-clause-spelled
-returns-clause-spelled g c told loaded said has held =
-    let begun : c.load.new.self ≡ prepared c.in-Ok-read_script.script = search rules in
-    unrun loaded said status.NoMemory _ _ (ap asked_of c.load.ensures.rest ∙ ap asked_of c.requires.files) (ap (λ (p : Playing). p.game.trace) begun)
-    (λ done. absurd (cc done))
+returns-clause-spelled g c told loaded said has held = unrun loaded said status.NoMemory _ _ c.begin.ensures.fresh.unasked c.begin.ensures.untold (λ done. absurd (cc done))
 
 pub returns-in-Ok-new-clause-serves : goal.returns-in-Ok-new-clause-serves
 returns-in-Ok-new-clause-serves g c =
-    let begun : c.load.new.self ≡ prepared c.in-Ok-read_script.script = search rules in
-    let grown : tree_of c.load.new.files ≡ planted c.in-Ok-read_script.script.files (tree_of c.args.files.now) = search rules in
-    let tree_is : tree_of c.load.new.files ≡ planted c.in-Ok-read_script.script.files (tree_of no_files) =
-    grown ∙ ap (λ (s : Stored). planted c.in-Ok-read_script.script.files (tree_of s)) c.requires.files in
-    let served = served_as c.in-Ok-new.server.site (site_at c.in-Ok.loaded.config.blocks) (tree_of c.load.new.files) (planted c.in-Ok-read_script.script.files (tree_of no_files)) (asked_of c.play.new.files) c.play.new.net.game.trace
+    let begun : c.begin.new.net ≡ prepared c.in-Ok-read_script.script = search rules in
+    let tree_is : tree_of c.begin.new.files ≡ planted c.in-Ok-read_script.script.files (tree_of no_files) = search rules in
+    let plans : ArePlanned c.in-Ok-read_script.script.faults c.begin.new.files = search rules in
+    let fails : FailsAsPlanned c.in-Ok-read_script.script.faults (asked_of c.play.new.files) = record { before = c.begin.new.files; after = c.play.new.files; begins = plans; leads = c.play.ensures.leads; left_is = refl } in
+    let served = served_as c.in-Ok-new.server.site (site_at c.in-Ok.loaded.config.blocks) (tree_of c.begin.new.files) (planted c.in-Ok-read_script.script.files (tree_of no_files)) (asked_of c.play.new.files) c.play.new.net.game.trace
     c.play.ensures.serves c.in-Ok-new.ensures.site tree_is in
-    record {
-      loaded = c.in-Ok.loaded;
-      in_form = c.in-Ok.ensures.in_form;
-      said = c.in-Ok-read_script.script;
-      serves = record {
-        served = served;
-        calm = c.play.ensures.calm c.in-Ok-read_script.script begun;
-        plays = c.play.ensures.plays c.in-Ok-read_script.script begun;
-      };
-    }
+    let by : ServesBy c.in-Ok.loaded c.in-Ok-read_script.script c.play.result (asked_of c.play.new.files) c.play.new.net.game.trace = record {
+      served = served;
+      planned = fails;
+      sound = none_fails c.in-Ok-read_script.script.faults (asked_of c.play.new.files) fails;
+      calm = λ calm none. c.play.ensures.calm c.in-Ok-read_script.script begun calm (none_fails c.in-Ok-read_script.script.faults (asked_of c.play.new.files) fails none);
+      plays = c.play.ensures.plays c.in-Ok-read_script.script begun;
+    } in
+    record { loaded = c.in-Ok.loaded; in_form = c.in-Ok.ensures.in_form; said = c.in-Ok-read_script.script; serves = by }
 
 pub returns-in-Ok-new-clause-spelled : goal.returns-in-Ok-new-clause-spelled
 returns-in-Ok-new-clause-spelled g c told loaded said has held =
     let kept : g.X.Texts.texts c.load_conf.new.texts c.args.script.now ≡ g.X.Texts.texts c.args.texts.now c.args.script.now = ap (λ (texts : List ℕ → Option (List ℕ)). texts c.args.script.now) (c.load_conf.ensures.texts told) in
     let same : c.in-Ok-read_script.script ≡ said = c.in-Ok-read_script.ensures.only told said (held.0, kept ∙ held.1, held.2, held.3) in
-    let begun : c.load.new.self ≡ prepared c.in-Ok-read_script.script = search rules in
-    let grown : tree_of c.load.new.files ≡ planted c.in-Ok-read_script.script.files (tree_of c.args.files.now) = search rules in
-    let tree_is : tree_of c.load.new.files ≡ planted c.in-Ok-read_script.script.files (tree_of no_files) =
-    grown ∙ ap (λ (s : Stored). planted c.in-Ok-read_script.script.files (tree_of s)) c.requires.files in
-    let served = served_as c.in-Ok-new.server.site (site_at c.in-Ok.loaded.config.blocks) (tree_of c.load.new.files) (planted c.in-Ok-read_script.script.files (tree_of no_files)) (asked_of c.play.new.files) c.play.new.net.game.trace
+    let begun : c.begin.new.net ≡ prepared c.in-Ok-read_script.script = search rules in
+    let tree_is : tree_of c.begin.new.files ≡ planted c.in-Ok-read_script.script.files (tree_of no_files) = search rules in
+    let plans : ArePlanned c.in-Ok-read_script.script.faults c.begin.new.files = search rules in
+    let fails : FailsAsPlanned c.in-Ok-read_script.script.faults (asked_of c.play.new.files) = record { before = c.begin.new.files; after = c.play.new.files; begins = plans; leads = c.play.ensures.leads; left_is = refl } in
+    let served = served_as c.in-Ok-new.server.site (site_at c.in-Ok.loaded.config.blocks) (tree_of c.begin.new.files) (planted c.in-Ok-read_script.script.files (tree_of no_files)) (asked_of c.play.new.files) c.play.new.net.game.trace
     c.play.ensures.serves c.in-Ok-new.ensures.site tree_is in
     let by : ServesBy c.in-Ok.loaded c.in-Ok-read_script.script c.play.result (asked_of c.play.new.files) c.play.new.net.game.trace = record {
       served = served;
-      calm = c.play.ensures.calm c.in-Ok-read_script.script begun;
+      planned = fails;
+      sound = none_fails c.in-Ok-read_script.script.faults (asked_of c.play.new.files) fails;
+      calm = λ calm none. c.play.ensures.calm c.in-Ok-read_script.script begun calm (none_fails c.in-Ok-read_script.script.faults (asked_of c.play.new.files) fails none);
       plays = c.play.ensures.plays c.in-Ok-read_script.script begun;
     } in
     served_for c.in-Ok.loaded loaded c.in-Ok-read_script.script said c.play.result _ _ by (c.in-Ok.ensures.only told loaded has) same
