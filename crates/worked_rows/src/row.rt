@@ -9,7 +9,7 @@ use lt_commands::{Status, offline};
 use lt_script::parse_script;
 use lt_serve::serve;
 use lt_world::{MemFiles, MemSink, MemTexts};
-use script_net::{ScriptNet, report};
+use script_net::{ScriptNet, plan_files, report};
 use std::alloc::Global;
 use std::sync::Wait;
 
@@ -305,6 +305,7 @@ impl<'t> Row<'t> {
         let mut net = ScriptNet::new(self.alloc);
         let mut files = MemFiles::new(self.alloc);
         net.load(&script, &mut files)?;
+        plan_files(script.faults.as_slice(), &mut files)?;
         let mut sink = MemSink::new(self.alloc, self.room)?;
         let status = serve(
             rt, self.alloc, &words, &mut texts, &mut net, &mut files, &mut sink,
