@@ -128,15 +128,16 @@ class Replays:
         return "replay", "-f", self.conf, self.script
 
     def runs(self, text, times):
-        """The times of some runs, and the memory of one."""
+        """The times of some runs."""
         words = self.words(text)
-        runs = [self.server.run(*words) for _ in range(times)]
-        return [seconds for seconds, _ in runs], runs[0][1]
+        return [self.server.run(*words) for _ in range(times)]
 
     def best(self, text, times):
-        """The least time of some runs, and the memory of one."""
-        seconds, memory = self.runs(text, times)
-        return min(seconds), memory
+        """The least time of some runs."""
+        return min(self.runs(text, times))
+
+    def memory(self, text):
+        return self.server.memory(*self.words(text))
 
     def instructions(self, text):
         return self.server.instructions(*self.words(text))
@@ -147,10 +148,10 @@ def time_writes(replays, empty, base):
     rows = []
     for clients in CLIENTS:
         if clients == 1:
-            runs, memory = replays.runs(script(1), REPLAYS_OF_ONE)
-            seconds = sum(runs) / REPLAYS_OF_ONE
+            seconds = sum(replays.runs(script(1), REPLAYS_OF_ONE)) / REPLAYS_OF_ONE
         else:
-            seconds, memory = replays.best(script(clients), 3)
+            seconds = replays.best(script(clients), 3)
+        memory = replays.memory(script(clients))
         rows.append(((seconds - empty) / (clients * WRITES), (memory - base) / (clients * SIZE)))
         print(
             f"{clients:4} clients: {seconds * 1000:8.1f} ms, {rows[-1][0] * 1e6:6.2f} us a write, "
@@ -166,7 +167,7 @@ def time_requests(replays, empty):
     """The time of a pipelined request, the dearer way against the cheaper."""
     times = []
     for connections, at_once in SHAPES:
-        seconds, _ = replays.best(pipelined(connections, at_once), 5)
+        seconds = replays.best(pipelined(connections, at_once), 5)
         times.append((seconds - empty) / REQUESTS)
         print(f"{connections} connections, {at_once} at once: {times[-1] * 1e6:6.2f} us a request")
     ratio = max(times) / min(times)
@@ -178,7 +179,7 @@ def time_endings(replays, empty):
     """The time of a connection among many, where the oldest end first against the newest."""
     times = []
     for newest_first in (False, True):
-        seconds, _ = replays.best(ended(newest_first), 10)
+        seconds = replays.best(ended(newest_first), 10)
         times.append((seconds - empty) / (ENDINGS * OPEN))
         print(f"{OPEN} connections, the {'newest' if newest_first else 'oldest'} ends first: {times[-1] * 1e6:6.2f} us a connection")
     ratio = times[0] / times[1]
@@ -191,7 +192,7 @@ def time_bodies(replays):
     times = []
     for chunk, size in BODIES:
         texts = [posted(chunk, size, arrives) for arrives in (True, False)]
-        pairs = [[replays.best(text, 1)[0] for text in texts] for _ in range(REPLAYS_OF_BODIES)]
+        pairs = [[replays.best(text, 1) for text in texts] for _ in range(REPLAYS_OF_BODIES)]
         read, unread = (min(seconds) for seconds in zip(*pairs))
         times.append((read - unread) / (POSTS * size))
         counts = [replays.instructions(posted(chunk, size, arrives, 1)) for arrives in (True, False)]
@@ -214,7 +215,7 @@ def measure(top):
     """Measures the program of a checkout, and answers how its times grow."""
     with tempfile.TemporaryDirectory() as folder:
         replays = Replays(folder, top)
-        empty, base = replays.best(script(0), 10)
+        empty, base = replays.best(script(0), 10), replays.memory(script(0))
         print(f"no client: {empty * 1000:.1f} ms, {base >> 20} MiB")
         growth = time_writes(replays, empty, base)
         ratio = time_requests(replays, empty)
