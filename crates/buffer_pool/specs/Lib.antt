@@ -1,4 +1,5 @@
 pub mod Edits
+pub mod Filling
 pub mod Held
 pub mod Kept
 pub mod Lending

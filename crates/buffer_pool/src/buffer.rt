@@ -1,8 +1,10 @@
 //! A buffer with its number, as plain data.
 ghost use Rattle.std.specs.Prelude.{◌≡◌, ◌-◌, ◌≤◌, length};
 ghost use Rattle.buffer_pool.specs.Edits.{blank, put_in, dropped, packed, as_file};
+ghost use Rattle.buffer_pool.specs.Filling.{Fills};
 ghost use Rattle.buffer_pool.specs.State.{IsWithin};
 
+use crate::filling::{Piece, read_into};
 use std::marker::Model;
 
 /// How many bytes a buffer has room for.
@@ -98,6 +100,25 @@ impl Buffer {
         let end = self.end + bytes.len();
         self.bytes[self.end..end].copy_from_slice(bytes);
         self.end = end;
+    }
+
+    pub(crate) fn fill<S, P: Piece<S>>(
+        &mut self,
+        n: usize,
+        piece: &P,
+        source: &mut S,
+    ) -> Result<(), P::Fault>
+        requires room { n ≤ self.old.room }
+        requires can_read { P.can_read piece.now source.old n }
+        ensures { Fills (P.reads piece.now source.old) (put_in self.old) self.old n result self.new source.new }
+    {
+        match read_into(&mut self.bytes, self.end, n, piece, source) {
+            Ok(()) => {
+                self.end += n;
+                Ok(())
+            }
+            Err(fault) => Err(fault),
+        }
     }
 
     pub(crate) fn drop_front(&mut self, n: usize)

@@ -1,10 +1,12 @@
 //! A chunk: a buffer that its holder owns.
-ghost use Rattle.std.specs.Prelude.{◌≡◌, ◌+◌, ◌≤◌, [], ◌∷◌, length, IfOk};
+ghost use Rattle.std.specs.Prelude.{◌≡◌, ◌+◌, ◌≤◌, [], ◌∷◌, length, IfOk, OnOk, OnErr};
 ghost use Rattle.buffer_pool.specs.Edits.{blank, put_in, dropped, packed, as_file, filled_by};
+ghost use Rattle.buffer_pool.specs.Filling.{Fills};
 ghost use Rattle.buffer_pool.specs.Kept.{Kept};
 ghost use Rattle.buffer_pool.specs.State.{IsWithin};
 
 use crate::buffer::{Buffer, Kind};
+use crate::filling::Piece;
 use crate::node::Node;
 use crate::pool::Pool;
 use lt_bytes::NoMemory;
@@ -78,6 +80,30 @@ impl Chunk {
     {
         pool.fill(bytes.len());
         self.node.buffer.put(bytes);
+    }
+
+    /// Reads `n` bytes behind those that are held. Where they do not come, the chunk and the pool are as they were.
+    pub fn fill<S, P: Piece<S>>(
+        &mut self,
+        pool: &mut Pool,
+        n: usize,
+        piece: &P,
+        source: &mut S,
+    ) -> Result<(), P::Fault>
+        requires room { n ≤ self.old.room }
+        requires can_read { P.can_read piece.now source.old n }
+        ensures chunk { Fills (P.reads piece.now source.old) (put_in self.old) self.old n result self.new source.new }
+        ensures ok { OnOk result (pool.new ≡ filled_by pool.old n) }
+        ensures err { OnErr result (pool.new ≡ pool.old) }
+        ensures kept { Kept pool.old (self.old.number ∷ []) pool.new (self.new.number ∷ []) }
+    {
+        match self.node.buffer.fill(n, piece, source) {
+            Ok(()) => {
+                pool.fill(n);
+                Ok(())
+            }
+            Err(fault) => Err(fault),
+        }
     }
 
     /// Moves the held bytes to the beginning of their buffer, so that all that is not held is room.

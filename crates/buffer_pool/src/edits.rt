@@ -1,8 +1,10 @@
 //! The calls that change the first or the last chunk of a list where it is. They do what the chunk's own calls do.
-ghost use Rattle.std.specs.Prelude.{◌≡◌, ◌<◌, ◌≤◌, length};
+ghost use Rattle.std.specs.Prelude.{◌≡◌, ◌<◌, ◌≤◌, length, OnOk, OnErr};
 ghost use Rattle.buffer_pool.specs.Kept.{numbers, Kept};
 ghost use Rattle.buffer_pool.specs.Edits.{first_of, last_of, with_first, with_last, put_in, dropped, packed, as_file, filled_by};
+ghost use Rattle.buffer_pool.specs.Filling.{Fills};
 
+use crate::filling::Piece;
 use crate::list::ChunkList;
 use crate::pool::Pool;
 
@@ -20,6 +22,34 @@ impl ChunkList {
             Some(mut chunk) => {
                 chunk.put(pool, bytes);
                 self.push_front(chunk);
+            }
+            None => unreachable!(),
+        }
+    }
+
+    /// Reads `n` bytes behind those that the first chunk holds. Where they do not come, the list and the pool are as they
+    /// were.
+    pub fn fill_front<S, P: Piece<S>>(
+        &mut self,
+        pool: &mut Pool,
+        n: usize,
+        piece: &P,
+        source: &mut S,
+    ) -> Result<(), P::Fault>
+        requires nonempty { 0 < length self.old }
+        requires room { n ≤ (first_of self.old).room }
+        requires can_read { P.can_read piece.now source.old n }
+        ensures list { Fills (P.reads piece.now source.old) (λ bytes. with_first self.old (put_in (first_of self.old) bytes)) self.old n result self.new source.new }
+        ensures ok { OnOk result (pool.new ≡ filled_by pool.old n) }
+        ensures err { OnErr result (pool.new ≡ pool.old) }
+        ensures numbers { numbers self.new ≡ numbers self.old }
+        ensures kept { Kept pool.old (numbers self.old) pool.new (numbers self.new) }
+    {
+        match self.pop_front() {
+            Some(mut chunk) => {
+                let read = chunk.fill(pool, n, piece, source);
+                self.push_front(chunk);
+                read
             }
             None => unreachable!(),
         }

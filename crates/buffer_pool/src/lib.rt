@@ -9,6 +9,7 @@
 mod buffer;
 mod chunk;
 mod edits;
+mod filling;
 mod lending;
 mod list;
 mod loose;
@@ -21,6 +22,7 @@ mod views;
 
 pub use buffer::{BUFFER_SIZE, Kind};
 pub use chunk::Chunk;
+pub use filling::Piece;
 pub use list::ChunkList;
 pub use pool::Pool;
 pub use views::{View, Walk};

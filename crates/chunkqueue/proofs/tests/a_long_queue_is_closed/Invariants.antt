@@ -1,6 +1,0 @@
-use Rattle.std.proofs.Common.{length}
-use Rattle.buffer_pool.specs.Kept.{HeldWithin}
-use Rattle.chunkqueue.proofs.tests.a_long_queue_is_closed.Given as goal
-
-abbrev pub invariant-loop : goal.invariant-loop
-invariant-loop g l = HeldWithin l.store (length l.queue.numbers)
