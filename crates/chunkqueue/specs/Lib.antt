@@ -4,4 +4,5 @@ pub mod Items
 pub mod Plain
 pub mod Pooled
 pub mod Ranged
+pub mod Reading
 pub mod Store

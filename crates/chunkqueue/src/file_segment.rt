@@ -148,7 +148,7 @@ impl FileSegment {
 }
 
 // Fills the first n bytes of a buffer by one read.
-pub(crate) fn read_front<F: Files>(
+fn read_front<F: Files>(
     buffer: &mut [u8],
     n: usize,
     files: &mut F,

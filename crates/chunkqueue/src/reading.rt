@@ -5,12 +5,32 @@ ghost use Rattle.lt_world.specs.Causes.{Rose};
 ghost use Rattle.chunkqueue.specs.Plain.{FirstLies, first_staged, first_staging, segments_unstaged, staged_by};
 ghost use Rattle.chunkqueue.specs.Pooled.{AreKept, FillsOnly, IsIdle, Unread, segments_of};
 
-use crate::file_segment::read_front;
-use buffer_pool::{BUFFER_SIZE, ChunkList, Kind, Pool};
+use buffer_pool::{BUFFER_SIZE, ChunkList, Kind, Piece, Pool};
 use lt_world::{Fault, FileId, Files, Owner};
 
-// Ranges up to this size are read through a small buffer.
-const SMALL_SIZE: usize = 512;
+// Bytes of an opened file, and for whom they are read.
+#[derive(Drop)]
+struct FilePiece {
+    owner: Owner,
+    file: FileId,
+    start: u64,
+}
+
+impl<F: Files> Piece<F> for FilePiece {
+    ghost use Rattle.lt_world.specs.Disk.{HasRange};
+    ghost use Rattle.chunkqueue.specs.Reading.{IsRead};
+
+    type Fault = Fault;
+
+    ghost can_read = { λ piece files n. F.tells → HasRange (F.disk files) piece.file.0 piece.start n };
+
+    ghost reads = { λ piece old result bytes new.
+        IsRead piece F.tells (F.disk old) (F.disk new) (F.faults old) (F.faults new) (F.reads old) (F.reads new) result bytes × F.later old new };
+
+    fn read(&self, files: &mut F, buf: &mut [u8]) -> Result<(), Fault> {
+        files.read_at(self.owner, self.file, self.start, buf)
+    }
+}
 
 /// Reads the first bytes of a range that stands first and of which nothing is staged, by one read.
 pub(crate) fn stage_front<F: Files>(
@@ -41,25 +61,12 @@ pub(crate) fn stage_front<F: Files>(
     let Some((file, start, n)) = unread_front(chunks) else {
         return Ok(());
     };
-    // Zeros are written only for what is read, where that is little.
-    if n <= SMALL_SIZE {
-        let mut buffer = [0u8; SMALL_SIZE];
-        return match read_front(&mut buffer, n, files, owner, FileId(file), start) {
-            Ok(()) => {
-                chunks.put_front(pool, &buffer[..n]);
-                Ok(())
-            }
-            Err(fault) => Err(fault),
-        };
-    }
-    let mut buffer = [0u8; BUFFER_SIZE];
-    match read_front(&mut buffer, n, files, owner, FileId(file), start) {
-        Ok(()) => {
-            chunks.put_front(pool, &buffer[..n]);
-            Ok(())
-        }
-        Err(fault) => Err(fault),
-    }
+    let piece = FilePiece {
+        owner,
+        file: FileId(file),
+        start,
+    };
+    chunks.fill_front(pool, n, &piece, files)
 }
 
 // The file, the position and the number of the bytes that are to be read.
