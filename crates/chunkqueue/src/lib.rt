@@ -36,10 +36,3 @@ pub type Chunks = ChunkQueue;
 
 /// The owner of its buffers.
 pub type Store = buffer_pool::Pool;
-
-#[cfg(test)]
-mod both_tests;
-#[cfg(test)]
-mod pooled_tests;
-#[cfg(test)]
-mod tests;
