@@ -16,8 +16,6 @@ mod loose;
 mod node;
 mod nodes;
 mod pool;
-#[cfg(test)]
-mod tests;
 mod views;
 
 pub use buffer::{BUFFER_SIZE, Kind};

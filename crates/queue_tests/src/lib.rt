@@ -1,4 +1,4 @@
-//! Tests of the chunk queues. Nothing here is for use.
+//! Tests of the chunk queues and their buffers. Nothing here is for use.
 //!
 //! What no contract says: that calls succeed with ample memory, how many buffers a call makes and leaves spare, and that
 //! both queues let the same bytes go.
@@ -6,6 +6,8 @@
 
 #[cfg(test)]
 mod both;
+#[cfg(test)]
+mod buffers;
 #[cfg(test)]
 mod calls;
 #[cfg(test)]

@@ -1,4 +1,5 @@
-use crate::{BUFFER_SIZE, Chunk, ChunkList, Kind, Pool};
+//! Chunks, lists of them and the pool, each call once with ample memory.
+use buffer_pool::{BUFFER_SIZE, Chunk, ChunkList, Kind, Pool};
 use std::process::Abort;
 
 #[test]
