@@ -3,6 +3,7 @@ ghost use Rattle.std.specs.Prelude.{IfOk};
 ghost use Rattle.lt_world.specs.FileAnswers.{OpenedWithin};
 ghost use Rattle.files_disk.specs.Opening.{OpensOne, RegularWithin};
 
+use crate::last_found::LastFound;
 use crate::looking::{look, seen};
 use crate::names::name_of;
 use crate::open_files::OpenFiles;
@@ -15,12 +16,14 @@ use std::{fs, rt};
 /// The files of a file system, over the runtime `R`. They tell nothing of what stands there.
 ///
 /// A path that is not UTF-8, or that holds a NUL, names nothing. Only regular files are opened: a directory, a pipe, a
-/// socket or a device is none, and none of them is waited for, since `open` looks before it opens. It cannot look and
-/// open in one step: where a pipe takes the place of a regular file between the two, `open` waits for its writer.
+/// socket or a device is none, and none of them is waited for: `open` opens only where a look found a regular file, its own
+/// or that of the last `find` that found one, if it was of the same path. It cannot look and open in one step: where a pipe
+/// takes the place of a regular file between the two, `open` waits for its writer.
 #[derive(Drop)]
 pub struct DiskFiles<R> {
     rt: R,
     table: OpenFiles<File>,
+    last: LastFound,
     faults: u64,
     reads: ReadLog,
 }
@@ -32,6 +35,7 @@ impl<R: AllocGlobal> DiskFiles<R> {
         DiskFiles {
             rt,
             table,
+            last: LastFound::none(),
             faults: 0,
             reads: ReadLog::new(),
         }
@@ -62,14 +66,17 @@ impl<R: rt::Files<File = File>> Files for DiskFiles<R> {
 
     fn find(&mut self, _owner: Owner, path: &[u8]) -> Found {
         let found = look(&self.rt, path);
-        if let Found::Failed = found {
-            self.faults = self.faults.saturating_add(1);
+        match found {
+            Found::File { size: _, time: _ } => self.last.keep(path),
+            Found::Failed => self.faults = self.faults.saturating_add(1),
+            _ => {}
         }
         found
     }
 
     fn open(&mut self, _owner: Owner, path: &[u8]) -> Opened {
-        let opened = open_at(&self.rt, &mut self.table, path);
+        let found = self.last.take(path);
+        let opened = open_at(&self.rt, &mut self.table, path, found);
         if let Opened::Failed = opened {
             self.faults = self.faults.saturating_add(1);
         }
@@ -99,15 +106,20 @@ impl<R: rt::Files<File = File>> Files for DiskFiles<R> {
     }
 }
 
-// Opens the regular file at a path under a number that no open file has.
-fn open_at<R: rt::Files<File = File>>(rt: &R, table: &mut OpenFiles<File>, path: &[u8]) -> Opened
+// Opens the regular file at a path under a number that no open file has. `found` says that a look has just found one.
+fn open_at<R: rt::Files<File = File>>(
+    rt: &R,
+    table: &mut OpenFiles<File>,
+    path: &[u8],
+    found: bool,
+) -> Opened
     ensures opens { OpensOne result table.old table.new }
     ensures within { OpenedWithin result path.now }
 {
     if table.make_room().is_err() {
         return Opened::NoMemory;
     }
-    match open_regular(rt, path) {
+    match open_regular(rt, path, found) {
         Ok(Regular { file, size, time }) => Opened::File {
             file: table.add(file),
             size,
@@ -126,17 +138,18 @@ struct Regular {
     time: u64,
 }
 
-fn open_regular<R: rt::Files<File = File>>(rt: &R, path: &[u8]) -> Result<Regular, Refusal>
+fn open_regular<R: rt::Files<File = File>>(
+    rt: &R,
+    path: &[u8],
+    found: bool,
+) -> Result<Regular, Refusal>
     ensures { IfOk result (λ regular. RegularWithin regular.size path.now) }
 {
     let Some(name) = name_of(path) else {
         return Err(Refusal::Missing);
     };
-    match look(rt, path) {
-        Found::File { size: _, time: _ } => {}
-        Found::Missing => return Err(Refusal::Missing),
-        Found::NoMemory => return Err(Refusal::NoMemory),
-        _ => return Err(Refusal::Failed),
+    if !found {
+        refuse_irregular(rt, path)?;
     }
     let file = match fs::open(rt, name) {
         Ok(file) => file,
@@ -148,6 +161,16 @@ fn open_regular<R: rt::Files<File = File>>(rt: &R, path: &[u8]) -> Result<Regula
     };
     match seen(&metadata, path) {
         Found::File { size, time } => Ok(Regular { file, size, time }),
+        _ => Err(Refusal::Failed),
+    }
+}
+
+// Only a regular file is opened.
+fn refuse_irregular<R: rt::Files>(rt: &R, path: &[u8]) -> Result<(), Refusal> {
+    match look(rt, path) {
+        Found::File { size: _, time: _ } => Ok(()),
+        Found::Missing => Err(Refusal::Missing),
+        Found::NoMemory => Err(Refusal::NoMemory),
         _ => Err(Refusal::Failed),
     }
 }

@@ -7,6 +7,7 @@
 
 mod disk_files;
 mod disk_texts;
+mod last_found;
 mod looking;
 mod names;
 mod open_files;
