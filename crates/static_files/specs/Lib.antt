@@ -1,3 +1,4 @@
+pub mod Texts
 pub mod Ranges
 pub mod Calendar
 pub mod Dates
