@@ -52,9 +52,9 @@ unsatisfied_text size = codes "bytes */" ++ decimal size
 
 -- ---- answers
 
--- 304 (section 15.4.5)
+-- 304, with no byte of the file (section 15.4.5)
 abbrev pub not_modified : ℕ → Answer
-not_modified time = record { status = 304; fields = modified_field time; content = content.Nothing }
+not_modified time = record { status = 304; fields = modified_field time; content = content.Part 0 0 }
 
 -- 200, 206 and 416 (sections 15.3.1, 15.3.7 and 15.5.17), by what is asked for
 abbrev pub ranged : List ℕ → ℕ → ℕ → Range → Answer

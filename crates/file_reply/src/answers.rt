@@ -5,11 +5,9 @@ use http_reply::Fields;
 /// What follows the head of a reply.
 #[derive(Clone, Copy, Debug, PartialEq, Eq)]
 pub enum Content {
-    /// Nothing.
-    Nothing,
     /// The status in words, as each error has it.
     Phrase,
-    /// So many bytes of the file, from `start` on.
+    /// So many bytes of the file, from `start` on; none where the status has no content, or the file is empty.
     Part { start: u64, len: u64 },
 }
 
