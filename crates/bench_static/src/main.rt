@@ -46,7 +46,7 @@ fn table(alloc: Global, count: u64) -> Result<List<Pair>, NoMemory> {
 }
 
 /// The sum of the lengths of what a look at all types says, so many times for each path.
-fn scanned(types: &List<Pair>, times: u64) -> u64 {
+fn scanned(types: &[Pair], times: u64) -> u64 {
     let mut sum = 0u64;
     for _ in 0..times {
         for path in PATHS {
@@ -74,7 +74,7 @@ fn found(index: &TypeIndex<'_>, times: u64) -> u64 {
 fn run(alloc: Global, count: u64, scans: u64, finds: u64) -> Result<u64, NoMemory> {
     let types = table(alloc, count)?;
     let index = TypeIndex::new(alloc, types.as_slice())?;
-    Ok(scanned(&types, scans).wrapping_add(found(&index, finds)))
+    Ok(scanned(types.as_slice(), scans).wrapping_add(found(&index, finds)))
 }
 
 fn number(word: Option<String>) -> Result<u64> {

@@ -1,6 +1,6 @@
 pub mod Calendar
-pub mod Escaping
 pub mod Placing
 pub mod RangeLaws
+pub mod TextLists
 pub mod TypeLookup
 pub mod TypeSlots

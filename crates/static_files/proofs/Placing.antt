@@ -1,5 +1,5 @@
 -- The calls by which index names are tried, and the log of those that failed.
-use Rattle.std.proofs.Common.{◌≡◌, ℕ, suc, ◌+◌, ◌<◌, ◌≤◌, List, ◌∷◌, ◌++◌, Bool, true, false, Result, Ok, Err, if◌then◌else◌, ◌&&◌, ◌==◌, refl, sym, ◌∙◌, ap, subst, drop, length, get_or, add-one, drop-cons, arith}
+use Rattle.std.proofs.Common.{◌≡◌, ℕ, ◌+◌, ◌<◌, ◌≤◌, List, [], ◌∷◌, ◌++◌, Bool, true, false, Result, Ok, Err, if◌then◌else◌, ◌&&◌, ◌==◌, refl, sym, ◌∙◌, ap, subst, arith}
 use Rattle.std.proofs.lemmas.Bool.Decides.{nat_tests}
 use Rattle.lt_bytes.specs.declared.memory.NoMemory.{NoMemory}
 use Rattle.lt_world.specs.declared.files.FileCall.TheVariants as call
@@ -10,7 +10,6 @@ use Rattle.lt_world.proofs.Disks.{logged_own, logged_below}
 use Rattle.static_files.specs.declared.places.Place.{Place}
 use Rattle.static_files.specs.declared.places.Place.TheVariants as place
 use Rattle.static_files.specs.declared.places.Tried.TheVariants as tried
-use Rattle.std.proofs.lemmas.List.{drop_all}
 use Rattle.lt_bytes.specs.Memory.{no_memory}
 use Rattle.static_files.specs.Places.{is_file, index_place, TriedTo, Tries, none, found, failed, next, no_memory_before, no_memory_behind, has_failed, IsPlaceBy}
 
@@ -75,32 +74,28 @@ tries_place owner path physical _ _ _ _ (next name names disk (Err e) after is m
 tries_place owner path physical _ _ _ _ (no_memory_before names disk) = tt
 tries_place owner path physical _ _ _ _ (no_memory_behind name names disk is) = tt
 
--- the names that are left begin with the one at hand
-at_name : (names : List (List ℕ)) (i : ℕ) (name : List ℕ) → i < length names → name ≡ get_or names i name → drop i names ≡ name ∷ drop (i + 1) names
-at_name names i name lt is = drop-cons names i name lt ∙ ap (λ x. x ∷ drop (suc i) names) (sym is) ∙ ap (λ n. name ∷ drop n names) (sym (add-one i))
-
 -- what one find told, as the first of the tries that are left
-pub found_at : (owner : Owner) (path physical : List ℕ) (names : List (List ℕ)) (i : ℕ) (name p stands : List ℕ) (before after : Disk) → i < length names → name ≡ get_or names i name
-    → p ≡ path ++ name → stands ≡ physical ++ name → TriedTo tried.File owner stands before after → Tries owner path physical (drop i names) before (Ok (place.File p stands)) after
-found_at owner path physical names i name p stands before after lt is q s told =
-    rw (at_name names i name lt is, told.1, q, s) (found name (drop (i + 1) names) before (subst (λ (z : List ℕ). is_file (before.tree z) ≡ true) s told.0))
+pub found_at : (owner : Owner) (path physical : List ℕ) (left rest : List (List ℕ)) (name p stands : List ℕ) (before after : Disk) → left ≡ name ∷ rest
+    → p ≡ path ++ name → stands ≡ physical ++ name → TriedTo tried.File owner stands before after → Tries owner path physical left before (Ok (place.File p stands)) after
+found_at owner path physical left rest name p stands before after is q s told =
+    rw (is, told.1, q, s) (found name rest before (subst (λ (z : List ℕ). is_file (before.tree z) ≡ true) s told.0))
 
-pub unspelled_at : (owner : Owner) (path physical : List ℕ) (names : List (List ℕ)) (i : ℕ) (name stands : List ℕ) (before after : Disk) → i < length names → name ≡ get_or names i name
-    → stands ≡ physical ++ name → TriedTo tried.File owner stands before after → Tries owner path physical (drop i names) before (Err no_memory) after
-unspelled_at owner path physical names i name stands before after lt is s told =
-    rw (at_name names i name lt is, told.1) (no_memory_behind name (drop (i + 1) names) before (subst (λ (z : List ℕ). is_file (before.tree z) ≡ true) s told.0))
+pub unspelled_at : (owner : Owner) (path physical : List ℕ) (left rest : List (List ℕ)) (name stands : List ℕ) (before after : Disk) → left ≡ name ∷ rest
+    → stands ≡ physical ++ name → TriedTo tried.File owner stands before after → Tries owner path physical left before (Err no_memory) after
+unspelled_at owner path physical left rest name stands before after is s told =
+    rw (is, told.1) (no_memory_behind name rest before (subst (λ (z : List ℕ). is_file (before.tree z) ≡ true) s told.0))
 
-pub failed_at : (owner : Owner) (path physical : List ℕ) (names : List (List ℕ)) (i : ℕ) (name stands : List ℕ) (before after : Disk) → i < length names → name ≡ get_or names i name
-    → TriedTo tried.Failed owner stands before after → Tries owner path physical (drop i names) before (Ok (place.Status 500)) after
-failed_at owner path physical names i name stands before after lt is told = rw (at_name names i name lt is, told) (failed name (drop (i + 1) names) before)
+pub failed_at : (owner : Owner) (path physical : List ℕ) (left rest : List (List ℕ)) (name stands : List ℕ) (before after : Disk) → left ≡ name ∷ rest
+    → TriedTo tried.Failed owner stands before after → Tries owner path physical left before (Ok (place.Status 500)) after
+failed_at owner path physical left rest name stands before after is told = rw (is, told) (failed name rest before)
 
-pub next_at : (owner : Owner) (path physical : List ℕ) (names : List (List ℕ)) (i : ℕ) (name stands : List ℕ) (before after : Disk) (result : Result Place NoMemory) (last : Disk) → i < length names → name ≡ get_or names i name
-    → stands ≡ physical ++ name → TriedTo tried.Other owner stands before after → Tries owner path physical (drop (i + 1) names) after result last → Tries owner path physical (drop i names) before result last
-next_at owner path physical names i name stands before after result last lt is s told more =
-    rw (at_name names i name lt is) (next name (drop (i + 1) names) before result last (subst (λ (z : List ℕ). is_file (before.tree z) ≡ false) s told.0) (subst (λ (d : Disk). Tries owner path physical (drop (i + 1) names) d result last) told.1 more))
+pub next_at : (owner : Owner) (path physical : List ℕ) (left rest : List (List ℕ)) (name stands : List ℕ) (before after : Disk) (result : Result Place NoMemory) (last : Disk) → left ≡ name ∷ rest
+    → stands ≡ physical ++ name → TriedTo tried.Other owner stands before after → Tries owner path physical rest after result last → Tries owner path physical left before result last
+next_at owner path physical left rest name stands before after result last is s told more =
+    rw is (next name rest before result last (subst (λ (z : List ℕ). is_file (before.tree z) ≡ false) s told.0) (subst (λ (d : Disk). Tries owner path physical rest d result last) told.1 more))
 
-pub lacking_at : (owner : Owner) (path physical : List ℕ) (names : List (List ℕ)) (i : ℕ) (before after : Disk) → after ≡ before → Tries owner path physical (drop i names) before (Err no_memory) after
-lacking_at owner path physical names i before after same = rw same (no_memory_before (drop i names) before)
+pub lacking_at : (owner : Owner) (path physical : List ℕ) (left : List (List ℕ)) (before after : Disk) → after ≡ before → Tries owner path physical left before (Err no_memory) after
+lacking_at owner path physical left before after same = rw same (no_memory_before left before)
 
-pub ended_at : (owner : Owner) (path physical : List ℕ) (names : List (List ℕ)) (i : ℕ) (disk : Disk) → length names ≤ i → Tries owner path physical (drop i names) disk (Ok (place.Status 403)) disk
-ended_at owner path physical names i disk le = rw (drop_all i names le) (none disk)
+pub ended_at : (owner : Owner) (path physical : List ℕ) (left : List (List ℕ)) (disk : Disk) → left ≡ [] → Tries owner path physical left disk (Ok (place.Status 403)) disk
+ended_at owner path physical left disk is = rw is (none disk)

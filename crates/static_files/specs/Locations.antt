@@ -1,6 +1,6 @@
 -- The location of a directory (RFC 9110, section 10.2.2; RFC 3986, sections 2.1 and 3.3), and excluded extensions
 -- (lighttpd's `static-file.exclude-extensions`).
-use Rattle.std.specs.Prelude.{ℕ, ◌-◌, Bool, ◌||◌, ◌==◌, List, [], ◌∷◌, ◌++◌, length, drop, flat_map, if◌then◌else◌, bytes_eq, codes}
+use Rattle.std.specs.Prelude.{ℕ, ◌-◌, Bool, false, ◌||◌, ◌==◌, List, [], ◌∷◌, ◌++◌, length, drop, flat_map, Option, Some, None, if◌then◌else◌, bytes_eq, codes}
 use Rattle.std.specs.Char.{is_ascii_alphanumeric}
 use Rattle.std.specs.List.{list_any}
 use Rattle.percent_encoding.specs.Percent.{percent_encode_byte}
@@ -28,6 +28,10 @@ location path query = escaped path ++ codes "/" ++ query_part query
 -- the text ends in these bytes
 abbrev pub ends_in : List ℕ → List ℕ → Bool
 ends_in text end = bytes_eq (drop (length text - length end) text) end
+
+abbrev pub ends_in_text : List ℕ → Option (List ℕ) → Bool
+ends_in_text path None = false
+ends_in_text path (Some end) = ends_in path end
 
 -- the path ends in one of the extensions
 abbrev pub is_excluded : List (List ℕ) → List ℕ → Bool

@@ -1,19 +1,14 @@
 -- Media types by the ends of paths (lighttpd's `mimetype.assign`; RFC 2046, section 4.5.1 for the type of any other).
 use Rattle.std.specs.Prelude.{ℕ, Bool, true, ◌&&◌, nat_le, List, [], ◌∷◌, length, Option, Some, None, if◌then◌else◌, codes}
 use Rattle.conf_value.specs.declared.value.Pair.{Pair, out-Pair}
-use Rattle.conf_value.specs.declared.value.Value.{Value, out-Value}
-use Rattle.conf_value.specs.declared.value.Value.TheOpen.{Value-F}
 use Rattle.static_files.specs.declared.media_types.Entry.{Entry}
 use Rattle.static_files.specs.Locations.{ends_in}
+use Rattle.static_files.specs.Texts.{text_in}
 
 -- what a path ends in, and the type of such files
 pub record MediaType : Type 0 where
   pub key : List ℕ
   pub value : List ℕ
-
-abbrev pub text_of : Value-F Value Pair → Option (List ℕ)
-text_of (Value-F.Text text) = Some text
-text_of value = None
 
 abbrev pub media_type_by : Option (List ℕ) → Option (List ℕ) → Option MediaType
 media_type_by (Some key) (Some value) = Some (record { key = key; value = value })
@@ -21,7 +16,7 @@ media_type_by key value = None
 
 -- a pair with a key and a text as its value; any other counts for nothing
 abbrev pub media_type_of : Pair → Option MediaType
-media_type_of pair = media_type_by (out-Pair pair).key (text_of (out-Value (out-Pair pair).value))
+media_type_of pair = media_type_by (out-Pair pair).key (text_in pair)
 
 -- no type is longer than this key
 abbrev pub is_longest : List ℕ → Option MediaType → Bool

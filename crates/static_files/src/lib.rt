@@ -11,6 +11,7 @@ pub mod laws;
 mod locations;
 mod media_types;
 mod places;
+mod texts;
 mod type_index;
 
 pub use byte_ranges::{Range, ranges};
@@ -19,6 +20,3 @@ pub use locations::{is_excluded, location};
 pub use media_types::mime;
 pub use places::{Place, find_file, map_path};
 pub use type_index::TypeIndex;
-
-#[cfg(test)]
-mod tests;

@@ -1,38 +1,57 @@
 //! Where a request for a directory without its slash is sent, and which paths are never sent as files.
-ghost use Rattle.std.specs.Prelude.{◌≡◌, ◌++◌, IfOk, OnOk};
+ghost use Rattle.std.specs.Prelude.{◌≡◌, ◌==◌, ◌++◌, IfOk, OnOk};
 ghost use Rattle.std.specs.List.{list_any};
-ghost use Rattle.static_files.specs.Locations.{ends_in, escaped, location, is_excluded};
+ghost use Rattle.static_files.specs.Locations.{is_kept, escaped_byte, escaped, query_part, location, ends_in, ends_in_text, is_excluded};
+ghost use Rattle.static_files.specs.Texts.{text_in, texts_of};
 
-use lt_bytes::{List, NoMemory, Text};
-use percent_encoding::{AsciiSet, CONTROLS, ascii_set, percent_encode};
+use crate::texts::text_in;
+use conf_value::Pair;
+use lt_bytes::{NoMemory, Text};
+use percent_encoding::percent_encode_byte;
 use std::alloc::Global;
 
-/// Every byte of ASCII but letters, digits and `-._~/!$&'()*+,;=:@`.
-const ESCAPED: AsciiSet = ascii_set!(
-    CONTROLS
-        .add(b' ')
-        .add(b'"')
-        .add(b'#')
-        .add(b'%')
-        .add(b'<')
-        .add(b'>')
-        .add(b'?')
-        .add(b'[')
-        .add(b'\\')
-        .add(b']')
-        .add(b'^')
-        .add(b'`')
-        .add(b'{')
-        .add(b'|')
-        .add(b'}')
-);
+/// What stays as it is beside letters and digits.
+const KEPT: &[u8] = b"-._~/!$&'()*+,;=:@";
+
+fn is_among(bytes: &[u8], byte: u8) -> bool
+    ensures { result ≡ list_any (λ kept. byte == kept) bytes.now }
+{
+    bytes.iter().any(|kept| byte == *kept)
+}
+
+fn is_kept(byte: u8) -> bool
+    ensures { result ≡ is_kept byte }
+{
+    byte.is_ascii_alphanumeric() || is_among(KEPT, byte)
+}
+
+fn push_byte(text: &mut Text, byte: u8) -> Result<(), NoMemory>
+    ensures { OnOk result (text.new ≡ text.old ++ escaped_byte byte) }
+{
+    if is_kept(byte) {
+        return text.push(byte);
+    }
+    text.push_all(percent_encode_byte(byte).as_bytes())
+}
 
 /// The path with every other byte as its number.
-fn escaped(alloc: Global, path: &[u8]) -> Result<Text, NoMemory>
-    ensures { IfOk result (λ text. text ≡ escaped path.now) }
+fn push_escaped(text: &mut Text, path: &[u8]) -> Result<(), NoMemory>
+    ensures { OnOk result (text.new ≡ text.old ++ escaped path.now) }
 {
-    let encoded = percent_encode(path, ESCAPED).into_cow(alloc)?;
-    Text::from_bytes(alloc, encoded.as_bytes())
+    for byte in path {
+        push_byte(text, *byte)?;
+    }
+    Ok(())
+}
+
+fn push_query(text: &mut Text, query: &[u8]) -> Result<(), NoMemory>
+    ensures { OnOk result (text.new ≡ text.old ++ query_part query.now) }
+{
+    if query.is_empty() {
+        return Ok(());
+    }
+    text.push(b'?')?;
+    text.push_all(query)
 }
 
 /// The value of the Location field that sends a request for a directory to its path with a final slash: the path
@@ -40,12 +59,12 @@ fn escaped(alloc: Global, path: &[u8]) -> Result<Text, NoMemory>
 pub fn location(alloc: Global, path: &[u8], query: &[u8]) -> Result<Text, NoMemory>
     ensures { IfOk result (λ text. text ≡ location path.now query.now) }
 {
-    let mut text = escaped(alloc, path)?;
-    text.push_all(b"/".as_slice())?;
-    if !query.is_empty() {
-        text.push_all(b"?".as_slice())?;
-        text.push_all(query)?;
-    }
+    // Most paths have nothing to escape.
+    let room = path.len().saturating_add(query.len()).saturating_add(2);
+    let mut text = Text::with_capacity(alloc, room)?;
+    push_escaped(&mut text, path)?;
+    text.push(b'/')?;
+    push_query(&mut text, query)?;
     Ok(text)
 }
 
@@ -55,12 +74,22 @@ pub(crate) fn ends_in(text: &[u8], end: &[u8]) -> bool
     text.ends_with(end)
 }
 
-/// Whether the path ends in one of the extensions whose files aren't sent.
-pub fn is_excluded(extensions: &List<Text>, path: &[u8]) -> bool
-    ensures { result ≡ is_excluded extensions.now path.now }
+// Whether the path ends in the text of this pair.
+fn ends_in_text(path: &[u8], extension: &Pair) -> bool
+    ensures { result ≡ ends_in_text path.now (text_in extension.now) }
 {
-    for extension in extensions.as_slice() {
-        if ends_in(path, extension.bytes()) {
+    match text_in(extension) {
+        Some(end) => ends_in(path, end),
+        None => false,
+    }
+}
+
+/// Whether the path ends in one of the extensions whose files aren't sent.
+pub fn is_excluded(extensions: &[Pair], path: &[u8]) -> bool
+    ensures { result ≡ is_excluded (texts_of extensions.now) path.now }
+{
+    for extension in extensions {
+        if ends_in_text(path, extension) {
             return true;
         }
     }

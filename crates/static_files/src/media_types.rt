@@ -3,8 +3,8 @@ ghost use Rattle.std.specs.Prelude.{◌≡◌, length, option_map};
 ghost use Rattle.static_files.specs.MediaTypes.{media_type_of, is_longest, better, mime, type_of, value_of};
 
 use crate::locations::ends_in;
-use conf_value::{Pair, Value};
-use lt_bytes::List;
+use crate::texts::text_in;
+use conf_value::Pair;
 
 /// The type of files of which nothing is known.
 const UNKNOWN: &[u8] = b"application/octet-stream";
@@ -23,13 +23,12 @@ pub(crate) fn entry_of<'a>(pair: &'a Pair) -> Option<Entry<'a>>
     let Some(key) = &pair.key else {
         return None;
     };
-    match &pair.value {
-        Value::Text(text) => Some(Entry {
+    match text_in(pair) {
+        Some(value) => Some(Entry {
             key: key.bytes(),
-            value: text.bytes(),
+            value,
         }),
-        Value::Number(_) => None,
-        Value::Array(_) => None,
+        None => None,
     }
 }
 
@@ -71,15 +70,14 @@ pub(crate) fn value_of<'a>(best: Option<Entry<'a>>) -> &'a [u8]
 
 /// The media type of a path: the value of the longest key in which it ends, of the first such key where two are
 /// equal, else `application/octet-stream`.
-pub fn mime<'a>(types: &'a List<Pair>, path: &[u8]) -> &'a [u8]
+pub fn mime<'a>(types: &'a [Pair], path: &[u8]) -> &'a [u8]
     ensures { result.now ≡ mime types.now path.now }
 {
-    let pairs = types.as_slice();
     let mut best: Option<Entry<'a>> = None;
-    let mut at = pairs.len();
+    let mut at = types.len();
     while at > 0 {
         at -= 1;
-        best = better(path, entry_of(&pairs[at]), best);
+        best = better(path, entry_of(&types[at]), best);
     }
     value_of(best)
 }

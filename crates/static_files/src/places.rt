@@ -3,8 +3,11 @@ ghost use Rattle.std.specs.Prelude.{◌≡◌, ◌++◌, ◌≤◌, IfOk};
 ghost use Rattle.lt_world.specs.declared.files.FileCall.TheVariants as call;
 ghost use Rattle.lt_world.specs.Disk.{count};
 ghost use Rattle.static_files.specs.Places.{TriedTo, FailedBy, Tries, Failed500, IsPlaceBy, has_failed};
+ghost use Rattle.static_files.specs.Texts.{texts_of};
 
-use lt_bytes::{List, NoMemory, Text};
+use crate::texts::text_in;
+use conf_value::Pair;
+use lt_bytes::{NoMemory, Text};
 use lt_world::{Files, Found, Owner};
 use std::alloc::Global;
 
@@ -66,21 +69,24 @@ fn find_among<F: Files>(
     owner: Owner,
     path: &[u8],
     physical: &[u8],
-    names: &[Text],
+    names: &[Pair],
 ) -> Result<Place, NoMemory>
-    ensures tries { F.tells → Tries owner path.now physical.now names.now (F.disk files.old) result (F.disk files.new) }
+    ensures tries { F.tells → Tries owner path.now physical.now (texts_of names.now) (F.disk files.old) result (F.disk files.new) }
     ensures cause { Failed500 result (F.faults files.old) (F.faults files.new) }
     ensures faults { F.faults files.old ≤ F.faults files.new }
     ensures reads { F.reads files.new ≡ F.reads files.old }
     ensures later { F.later files.old files.new }
 {
-    for name in names {
-        let Ok(stands) = joined(alloc, physical, name.bytes()) else {
+    for pair in names {
+        let Some(name) = text_in(pair) else {
+            continue;
+        };
+        let Ok(stands) = joined(alloc, physical, name) else {
             return Err(NoMemory);
         };
         match try_at(files, owner, stands.bytes()) {
             Tried::File => {
-                let Ok(path) = joined(alloc, path, name.bytes()) else {
+                let Ok(path) = joined(alloc, path, name) else {
                     return Err(NoMemory);
                 };
                 return Ok(Place::File {
@@ -105,14 +111,14 @@ pub fn find_file<F: Files>(
     owner: Owner,
     path: &[u8],
     physical: &[u8],
-    index: &List<Text>,
+    index: &[Pair],
 ) -> Result<Place, NoMemory>
-    ensures place { F.tells → IsPlaceBy result (has_failed owner (F.disk files.new)) (F.disk files.old).tree (count call.Find owner (F.disk files.old).calls) path.now physical.now index.now }
-    ensures tries { F.tells → Tries owner path.now physical.now index.now (F.disk files.old) result (F.disk files.new) }
+    ensures place { F.tells → IsPlaceBy result (has_failed owner (F.disk files.new)) (F.disk files.old).tree (count call.Find owner (F.disk files.old).calls) path.now physical.now (texts_of index.now) }
+    ensures tries { F.tells → Tries owner path.now physical.now (texts_of index.now) (F.disk files.old) result (F.disk files.new) }
     ensures cause { Failed500 result (F.faults files.old) (F.faults files.new) }
     ensures faults { F.faults files.old ≤ F.faults files.new }
     ensures reads { F.reads files.new ≡ F.reads files.old }
     ensures later { F.later files.old files.new }
 {
-    find_among(alloc, files, owner, path, physical, index.as_slice())
+    find_among(alloc, files, owner, path, physical, index)
 }
