@@ -1,6 +1,7 @@
 -- What a request for a file is answered, by its media type, its size and the time when it was changed last (RFC 9110,
 -- sections 8.3, 8.8.2, 13.1.3, 13.2.2, 14 and 15).
-use Rattle.std.specs.Prelude.{ℕ, ◌+◌, ◌-◌, Bool, false, List, [], ◌∷◌, ◌++◌, Option, Some, None, if◌then◌else◌, bytes_eq, codes, decimal}
+use Rattle.std.specs.Prelude.{◌≤◌, ◌==◌, ℕ, ◌+◌, ◌-◌, Bool, false, List, [], ◌∷◌, ◌++◌, Option, Some, None, if◌then◌else◌, bytes_eq, codes, decimal}
+use Rattle.std.specs.List.{list_any}
 use Rattle.http_header.specs.FieldValue.{FieldValue}
 use Rattle.http_header.specs.HeaderMap.{Entries, get, get_all}
 use Rattle.http_reply.specs.FieldLines.{FieldLines}
@@ -9,6 +10,7 @@ use Rattle.static_files.specs.Ranges.{ranges}
 use Rattle.static_files.specs.declared.byte_ranges.Range.{Range}
 use Rattle.static_files.specs.declared.byte_ranges.Range.TheVariants as range
 use Rattle.file_reply.specs.declared.answers.Answer.{Answer}
+use Rattle.file_reply.specs.declared.answers.Content.{Content}
 use Rattle.file_reply.specs.declared.answers.Content.TheVariants as content
 
 -- ---- what a request asks for beside its path
@@ -56,15 +58,30 @@ unsatisfied_text size = codes "bytes */" ++ decimal size
 abbrev pub not_modified : ℕ → Answer
 not_modified time = record { status = 304; fields = modified_field time; content = content.Part 0 0 }
 
--- 200, 206 and 416 (sections 15.3.1, 15.3.7 and 15.5.17), by what is asked for
+-- 416 (section 15.5.17)
+abbrev pub unsatisfied : ℕ → Answer
+unsatisfied size = record { status = 416; fields = (codes "Content-Range", unsatisfied_text size) ∷ []; content = content.Phrase }
+
+-- 200, 206 and 416 (sections 15.3.1 and 15.3.7), by what is asked for
 abbrev pub ranged : List ℕ → ℕ → ℕ → Range → Answer
 ranged media_type size time range.Whole = record { status = 200; fields = file_fields media_type time; content = content.Part 0 size }
 ranged media_type size time (range.Part start len) =
     record { status = 206; fields = file_fields media_type time ++ (codes "Content-Range", part_text start len size) ∷ []; content = content.Part start len }
-ranged media_type size time range.Unsatisfiable = record { status = 416; fields = (codes "Content-Range", unsatisfied_text size) ∷ []; content = content.Phrase }
+ranged media_type size time range.Unsatisfiable = unsatisfied size
 
 -- a copy that is fresh goes before a range (section 13.2.2)
 abbrev pub answer : List ℕ → List ℕ → Entries FieldValue → ℕ → ℕ → Answer
 answer media_type method fields size time =
     if is_fresh (get fields (codes "if-modified-since")) time then not_modified time
     else ranged media_type size time (range_for method fields size)
+
+-- ---- what the laws speak of
+
+-- what is sent lies in a file of this size
+abbrev pub IsWithin : Content → ℕ → Type 0
+IsWithin content.Phrase size = Unit {0}
+IsWithin (content.Part start len) size = start + len ≤ size
+
+-- a status that an opened file answers
+abbrev pub is_status : ℕ → Bool
+is_status status = list_any (λ other. status == other) (200 ∷ 206 ∷ 304 ∷ 416 ∷ [])
