@@ -69,11 +69,11 @@ fn unsatisfied_text(alloc: Global, size: u64) -> Result<Text, NoMemory>
 fn not_modified(alloc: Global, time: u64) -> Result<Answer, NoMemory>
     ensures { IfOk result (λ answer. answer ≡ spec.not_modified time) }
 {
-    let mut fields = Fields::new(alloc);
-    add_modified(alloc, &mut fields, time)?;
+    let mut validators = Fields::new(alloc);
+    add_modified(alloc, &mut validators, time)?;
     Ok(Answer {
         status: 304,
-        fields,
+        fields: validators,
         content: Content::Part { start: 0, len: 0 },
     })
 }
