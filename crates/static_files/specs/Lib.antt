@@ -7,3 +7,4 @@ pub mod Locations
 pub mod MediaTypes
 pub mod TypeSlots
 pub mod TypeIndexView
+pub mod TypeTables

@@ -13,6 +13,7 @@ mod media_types;
 mod places;
 mod texts;
 mod type_index;
+mod type_tables;
 
 pub use byte_ranges::{Range, ranges};
 pub use dates::{fresh, last_modified};
@@ -20,3 +21,4 @@ pub use locations::{is_excluded, location};
 pub use media_types::mime;
 pub use places::{Place, find_file, map_path};
 pub use type_index::TypeIndex;
+pub use type_tables::TypeTables;
