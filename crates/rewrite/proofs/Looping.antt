@@ -112,39 +112,34 @@ at_end lists start passes target le reached =
     by (next.Once text) = refl
     by (next.Repeat text) = refl
 
-pub ends_kept : (lists present : Target → Lists) (start : Target) (passes : ℕ) (target new : Target) → present ≡ lists → passes < 100 → Reached lists start passes target
-    → (pass.Kept, new) ≡ pass_by (next_of (present target) target.raw) target → rewritten lists start ≡ kept passes new
-ends_kept lists present start passes target new same lt reached e =
-    at_kept lists start passes target new lt reached (subst (λ (l : Target → Lists). (pass.Kept, new) ≡ pass_by (next_of (l target) target.raw) target) same e)
+-- ---- comparisons
 
-pub ends_bad : (lists present : Target → Lists) (start : Target) (passes : ℕ) (target new : Target) → present ≡ lists → passes < 100 → Reached lists start passes target
-    → (pass.Bad, new) ≡ pass_by (next_of (present target) target.raw) target → rewritten lists start ≡ record { answer = answer.Bad; target = new; passes = passes }
-ends_bad lists present start passes target new same lt reached e =
-    at_bad lists start passes target new lt reached (subst (λ (l : Target → Lists). (pass.Bad, new) ≡ pass_by (next_of (l target) target.raw) target) same e)
+-- a look more, after which what was asked still counts
+pub kept_cost : (new mid old asked_new asked_mid asked_old passes total most : ℕ) → mid + asked_old ≤ old + passes * most + asked_mid → new + asked_mid ≤ mid + 0 + asked_new → total ≡ passes
+    → new + asked_old ≤ old + total * most + asked_new
+kept_cost new mid old asked_new asked_mid asked_old passes total most before one same =
+    let times : total * most ≡ passes * most = ap (λ (n : ℕ). n * most) same in
+    omega (arith, before, one, times)
 
-pub ends_once : (lists present : Target → Lists) (start : Target) (passes : ℕ) (target new : Target) → present ≡ lists → passes < 100 → Reached lists start passes target
-    → (pass.Once, new) ≡ pass_by (next_of (present target) target.raw) target → rewritten lists start ≡ kept (passes + 1) new
-ends_once lists present start passes target new same lt reached e =
-    at_once lists start passes target new lt reached (subst (λ (l : Target → Lists). (pass.Once, new) ≡ pass_by (next_of (l target) target.raw) target) same e)
+-- a look more, after which nothing counts any more
+pub taken_cost : (new mid old asked_new asked_mid asked_old passes total most : ℕ) → mid + asked_old ≤ old + passes * most + asked_mid → new + asked_mid ≤ mid + most + asked_new → total ≡ passes + 1
+    → new + asked_old ≤ old + total * most + asked_new
+taken_cost new mid old asked_new asked_mid asked_old passes total most before one same =
+    let times : total * most ≡ passes * most + most = ap (λ (n : ℕ). n * most) (same ∙ add-one passes) ∙ suc-mul passes most in
+    omega (arith, before, one, times)
 
-pub goes_on : (lists present : Target → Lists) (start : Target) (passes : ℕ) (target new : Target) → present ≡ lists → passes < 100 → Reached lists start passes target
-    → (pass.Repeat, new) ≡ pass_by (next_of (present target) target.raw) target → Reached lists start (passes + 1) new
-goes_on lists present start passes target new same lt reached e =
-    at_repeat lists start passes target new lt reached (subst (λ (l : Target → Lists). (pass.Repeat, new) ≡ pass_by (next_of (l target) target.raw) target) same e)
+-- a look that found no memory
+pub err_cost : (new mid old asked_new asked_mid asked_old passes most : ℕ) → passes ≤ 100 → mid + asked_old ≤ old + passes * most + asked_mid → new + asked_mid ≤ mid + asked_new + 1
+    → new + asked_old ≤ old + 100 * most + asked_new + 1
+err_cost new mid old asked_new asked_mid asked_old passes most few before one =
+    let times : passes * most ≤ 100 * most = mul-le-mul_right most few in
+    omega (arith, before, one, times)
 
-pub ends_last : (lists present : Target → Lists) (start : Target) (passes : ℕ) (target now : Target) (n : Next) → present ≡ lists → now ≡ target → 100 ≤ passes → Reached lists start passes target
-    → n ≡ next_of (present now) target.raw → rewritten lists start ≡ record { answer = limit_answer n; target = target; passes = 100 }
-ends_last lists present start passes target now n same here le reached e =
-    at_end lists start passes target le reached
-    ∙ ap (λ (x : Next). record { answer = limit_answer x; target = target; passes = 100 })
-    (sym (e ∙ ap (λ (l : Target → Lists). next_of (l now) target.raw) same ∙ ap (λ (t : Target). next_of (lists t) target.raw) here))
-
--- what was compared, with one look more
-pub cost : (new old first most times passes : ℕ) → new ≤ old + most → old ≤ first + times * most → times ≤ passes → new ≤ first + (passes + 1) * most
-cost new old first most times passes one before le =
-    let more : times * most ≤ passes * most = mul-le-mul_right most le in
-    let split : (passes + 1) * most ≡ passes * most + most = ap (λ (n : ℕ). n * most) (add-one passes) ∙ suc-mul passes most in
-    omega (arith, more, split, one, before)
+-- no request has more passes than there may be
+pub within_cost : (new old asked_new asked_old total most : ℕ) → total ≤ 100 → new + asked_old ≤ old + total * most + asked_new → new + asked_old ≤ old + 100 * most + asked_new + 1
+within_cost new old asked_new asked_old total most few all =
+    let times : total * most ≤ 100 * most = mul-le-mul_right most few in
+    omega (arith, all, times)
 
 pub new_after : (passes : ℕ) → answer.New ≡ answer_after (passes + 1)
 new_after passes = ap answer_after (sym (add-one passes))

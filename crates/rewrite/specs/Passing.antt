@@ -1,5 +1,5 @@
 -- One look at the lists, as the loop takes it.
-use Rattle.std.specs.Prelude.{Bool, true, false, Option, Some, None}
+use Rattle.std.specs.Prelude.{ℕ, Bool, true, false, Option, Some, None}
 use Rattle.http_target.specs.declared.read.Target.{Target}
 use Rattle.rewrite.specs.declared.next.Next.{Next}
 use Rattle.rewrite.specs.declared.next.Next.TheVariants as next
@@ -28,3 +28,10 @@ abbrev pub limit_answer : Next → Rewritten
 limit_answer next.Kept = answer.New
 limit_answer (next.Once text) = answer.Loop
 limit_answer (next.Repeat text) = answer.Loop
+
+-- how many conditions may be compared once more after it: as many as there are, where a target was taken
+abbrev pub again : Pass → ℕ → ℕ
+again pass.Kept most = 0
+again pass.Bad most = 0
+again pass.Once most = most
+again pass.Repeat most = most

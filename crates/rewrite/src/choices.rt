@@ -1,66 +1,61 @@
 //! Which rules win on a target.
-use crate::rules::Rules;
-use conditions::Matchers;
+use crate::next::Next;
+use conditions::{Matchers, Steps};
 use http_target::Target;
 use lt_bytes::NoMemory;
+use std::alloc::Global;
+use std::sync::ledger::Ledger;
 
-/// The conditions of one request, which choose the rules that win on its present target.
+/// A request, of which it can be told which rules win on each target that it may have.
 ///
 /// The lists are functions of the target: those of the last block that holds on it and sets them, each with the groups
-/// of that block's own condition. After want of memory the conditions may stand at either target.
+/// of that block's own condition. What was found of the conditions on one target is kept beside the request, so that
+/// it goes from one call to the next.
 pub trait Choices {
-    ghost use Rattle.std.specs.Prelude.{◌≡◌, ℕ, ◌+◌, ◌≤◌, List, OnOk};
+    ghost use Rattle.std.specs.Prelude.{◌≡◌, ℕ, ◌+◌, ◌≤◌, List, IfOk, OnOk};
     ghost use Rattle.conditions.specs.Marked.{Marked};
     ghost use Rattle.http_target.specs.declared.read.Target.{Target};
-    ghost use Rattle.rewrite.specs.Rules.{Lists, AreNumbered};
-    ghost use Rattle.rewrite.specs.Found.{lent_list};
+    ghost use Rattle.rewrite.specs.Rules.{Lists};
+    ghost use Rattle.rewrite.specs.Rewriting.{next_of};
+
+    /// What was found of the conditions on one target.
+    type Conds;
 
     /// The lists that win on each target.
     ghost lists: { Self → Target → Lists };
 
-    /// The present target.
-    ghost present: { Self → Target };
+    /// What was found is right on this target.
+    ghost right: { Self → Target → Self.Conds → Type 0 };
 
-    /// The rules' numbers are those of their patterns among these.
-    ghost belongs: { Self → List Marked → Type 0 };
+    /// How many conditions were compared for what was found.
+    ghost asked: { Self.Conds → ℕ };
 
-    /// The lists that win on the present target are known.
-    ghost known: { Self → Type 0 };
-
-    /// How many conditions were compared so far.
-    ghost compared: { Self → ℕ };
-
-    /// How many conditions are compared for one target at most.
+    /// How many conditions there are.
     ghost most: { Self → ℕ };
 
-    /// Finds the lists that win on the present target.
-    fn choose(&mut self, matchers: &mut Matchers<'_>) -> Result<(), NoMemory>
-        requires { belongs self.old matchers.old }
-        ensures known { OnOk result (known self.new) }
-        ensures lists { lists self.new ≡ lists self.old }
-        ensures present { present self.new ≡ present self.old }
-        ensures belongs { (patterns : List Marked) → belongs self.old patterns → belongs self.new patterns }
-        ensures matchers { matchers.new ≡ matchers.old }
-        ensures most { most self.new ≡ most self.old }
-        ensures compared { compared self.new ≤ compared self.old + most self.old };
+    /// The patterns of the conditions and of the rules are among these, by their numbers.
+    ghost belongs: { Self → List Marked → Type 0 };
 
-    /// The list of which a match ends the rewriting.
-    fn once(&self) -> Rules<'_>
-        requires { known self.now }
-        ensures list { lent_list result ≡ (lists self.now (present self.now)).once }
-        ensures numbered { (patterns : List Marked) → belongs self.now patterns → AreNumbered patterns result.first_pattern result.pairs.now };
+    /// What the lists that win on a target make of it.
+    fn next<L: Ledger>(
+        &self,
+        alloc: Global,
+        target: &Target,
+        conds: &mut Self::Conds,
+        matchers: &mut Matchers<'_>,
+        steps: &mut Steps<L>,
+    ) -> Result<Next, NoMemory>
+        requires right { right self.now target.now conds.old }
+        requires patterns { belongs self.now matchers.old }
+        ensures next { IfOk result (λ next. next ≡ next_of (lists self.now target.now) target.now.raw) }
+        ensures right { right self.now target.now conds.new }
+        ensures few { asked conds.new ≤ most self.now }
+        ensures steps { OnOk result (steps.new + asked conds.old ≤ steps.old + asked conds.new) }
+        ensures bounded { steps.new + asked conds.old ≤ steps.old + asked conds.new + 1 }
+        ensures matchers { matchers.new ≡ matchers.old };
 
-    /// The list after whose match all begins again.
-    fn repeat(&self) -> Rules<'_>
-        requires { known self.now }
-        ensures list { lent_list result ≡ (lists self.now (present self.now)).repeat }
-        ensures numbered { (patterns : List Marked) → belongs self.now patterns → AreNumbered patterns result.first_pattern result.pairs.now };
-
-    /// The request has a new target. The path of its file isn't known.
-    fn set_target(&mut self, target: &Target) -> Result<(), NoMemory>
-        ensures present { OnOk result (present self.new ≡ target.now) }
-        ensures lists { lists self.new ≡ lists self.old }
-        ensures belongs { (patterns : List Marked) → belongs self.old patterns → belongs self.new patterns }
-        ensures most { most self.new ≡ most self.old }
-        ensures compared { compared self.new ≡ compared self.old };
+    /// The target becomes another one: nothing that was found counts any more.
+    fn set_target(&self, conds: &mut Self::Conds)
+        ensures right { (old new : Target) → right self.now old conds.old → right self.now new conds.new }
+        ensures asked { asked conds.new ≡ 0 };
 }

@@ -13,7 +13,7 @@ mod rewriting;
 mod rules;
 
 pub use choices::Choices;
-pub use next::Next;
+pub use next::{Next, next_of};
 pub use rewriting::{Rewritten, rewrite};
 pub use rules::Rules;
 

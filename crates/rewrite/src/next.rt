@@ -55,7 +55,7 @@ fn repeat_by(text: Option<Text>) -> Next
 }
 
 /// What two lists make of a target: the first match counts, first of the once list, then of the repeat list.
-pub(crate) fn next_of(
+pub fn next_of(
     alloc: Global,
     matchers: &mut Matchers<'_>,
     once: Rules<'_>,

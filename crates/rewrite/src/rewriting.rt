@@ -1,15 +1,15 @@
 //! A request that is rewritten.
-ghost use Rattle.std.specs.Prelude.{◌≡◌, ◌+◌, ◌*◌, ◌≤◌, List, IfOk, OnOk};
-ghost use Rattle.conditions.specs.Marked.{Marked};
+ghost use Rattle.std.specs.Prelude.{◌≡◌, ◌+◌, ◌*◌, ◌≤◌, IfOk, OnOk, OnErr, if◌then◌else◌};
 ghost use Rattle.rewrite.specs.Rewriting.{next_of, new_target, answer_after, rewritten};
-ghost use Rattle.rewrite.specs.Passing.{taken_by, pass_by, limit_answer};
+ghost use Rattle.rewrite.specs.Passing.{again, taken_by, pass_by, limit_answer};
 
 use crate::choices::Choices;
-use crate::next::{Next, new_target, next_of};
-use conditions::Matchers;
+use crate::next::{Next, new_target};
+use conditions::{Matchers, Steps};
 use http_target::Target;
 use lt_bytes::NoMemory;
 use std::alloc::Global;
+use std::sync::ledger::Ledger;
 
 /// How a rewriting ends.
 #[derive(Clone, Copy, Debug, PartialEq, Eq)]
@@ -36,76 +36,55 @@ pub(crate) enum Pass {
 /// No request has more new targets.
 const MOST: u32 = 100;
 
-/// What the lists that win on the present target make of it.
-fn next<C: Choices>(
-    alloc: Global,
-    matchers: &mut Matchers<'_>,
-    choices: &mut C,
-    raw: &[u8],
-) -> Result<Next, NoMemory>
-    requires { C.belongs choices.old matchers.old }
-    ensures next { IfOk result (λ next. next ≡ next_of (C.lists choices.old (C.present choices.old)) raw.now) }
-    ensures lists { C.lists choices.new ≡ C.lists choices.old }
-    ensures present { C.present choices.new ≡ C.present choices.old }
-    ensures belongs { (patterns : List Marked) → C.belongs choices.old patterns → C.belongs choices.new patterns }
-    ensures matchers { matchers.new ≡ matchers.old }
-    ensures most { C.most choices.new ≡ C.most choices.old }
-    ensures compared { C.compared choices.new ≤ C.compared choices.old + C.most choices.old }
-{
-    choices.choose(matchers)?;
-    next_of(alloc, matchers, choices.once(), choices.repeat(), raw)
-}
-
 /// Takes a new target in the place of the old one, unless it is too long or bad.
 fn take<C: Choices>(
     alloc: Global,
-    choices: &mut C,
+    choices: &C,
     target: &mut Target,
+    conds: &mut C::Conds,
     text: &[u8],
 ) -> Result<bool, NoMemory>
     ensures taken { IfOk result (λ taken. (taken, target.new) ≡ taken_by (new_target text.now) target.old) }
-    ensures present { OnOk result (C.present choices.old ≡ target.old → C.present choices.new ≡ target.new) }
-    ensures lists { C.lists choices.new ≡ C.lists choices.old }
-    ensures belongs { (patterns : List Marked) → C.belongs choices.old patterns → C.belongs choices.new patterns }
-    ensures most { C.most choices.new ≡ C.most choices.old }
-    ensures compared { C.compared choices.new ≡ C.compared choices.old }
+    ensures right { C.right choices.now target.old conds.old → C.right choices.now target.new conds.new }
+    ensures asked { IfOk result (λ taken. C.asked conds.new ≡ (if taken then 0 else C.asked conds.old)) }
+    ensures err { OnErr result (C.asked conds.new ≡ C.asked conds.old) }
 {
     let Some(new) = new_target(alloc, text)? else {
         return Ok(false);
     };
-    choices.set_target(&new)?;
+    choices.set_target(conds);
     *target = new;
     Ok(true)
 }
 
 /// One look at the lists, and the new target that is taken.
-fn look<C: Choices>(
+fn look<C: Choices, L: Ledger>(
     alloc: Global,
-    matchers: &mut Matchers<'_>,
-    choices: &mut C,
+    choices: &C,
     target: &mut Target,
+    conds: &mut C::Conds,
+    matchers: &mut Matchers<'_>,
+    steps: &mut Steps<L>,
 ) -> Result<Pass, NoMemory>
-    requires target { C.present choices.old ≡ target.old }
-    requires patterns { C.belongs choices.old matchers.old }
-    ensures pass { IfOk result (λ pass. (pass, target.new) ≡ pass_by (next_of (C.lists choices.old target.old) target.old.raw) target.old) }
-    ensures present { OnOk result (C.present choices.new ≡ target.new) }
-    ensures lists { C.lists choices.new ≡ C.lists choices.old }
-    ensures belongs { (patterns : List Marked) → C.belongs choices.old patterns → C.belongs choices.new patterns }
+    requires right { C.right choices.now target.old conds.old }
+    requires patterns { C.belongs choices.now matchers.old }
+    ensures pass { IfOk result (λ pass. (pass, target.new) ≡ pass_by (next_of (C.lists choices.now target.old) target.old.raw) target.old) }
+    ensures right { C.right choices.now target.new conds.new }
+    ensures steps { IfOk result (λ pass. steps.new + C.asked conds.old ≤ steps.old + again pass (C.most choices.now) + C.asked conds.new) }
+    ensures err { OnErr result (steps.new + C.asked conds.old ≤ steps.old + C.asked conds.new + 1) }
     ensures matchers { matchers.new ≡ matchers.old }
-    ensures most { C.most choices.new ≡ C.most choices.old }
-    ensures compared { C.compared choices.new ≤ C.compared choices.old + C.most choices.old }
 {
-    match next(alloc, matchers, choices, target.raw.bytes())? {
+    match choices.next(alloc, target, conds, matchers, steps)? {
         Next::Kept => Ok(Pass::Kept),
         Next::Once(text) => {
-            if take(alloc, choices, target, text.bytes())? {
+            if take(alloc, choices, target, conds, text.bytes())? {
                 Ok(Pass::Once)
             } else {
                 Ok(Pass::Bad)
             }
         }
         Next::Repeat(text) => {
-            if take(alloc, choices, target, text.bytes())? {
+            if take(alloc, choices, target, conds, text.bytes())? {
                 Ok(Pass::Repeat)
             } else {
                 Ok(Pass::Bad)
@@ -135,29 +114,30 @@ fn at_limit(next: &Next) -> Rewritten
     }
 }
 
-/// Rewrites the target of a request, whose conditions stand at it, and sets each new target there.
+/// Rewrites the target of a request, of which `conds` is what was found of the conditions, and then on the new target.
 ///
-/// After want of memory the conditions and the target may stand at any new target that was reached.
-pub fn rewrite<C: Choices>(
+/// After want of memory the target may be any that was reached.
+pub fn rewrite<C: Choices, L: Ledger>(
     alloc: Global,
-    matchers: &mut Matchers<'_>,
-    choices: &mut C,
+    choices: &C,
     target: &mut Target,
+    conds: &mut C::Conds,
+    matchers: &mut Matchers<'_>,
+    steps: &mut Steps<L>,
 ) -> Result<Rewritten, NoMemory>
-    requires target { C.present choices.old ≡ target.old }
-    requires patterns { C.belongs choices.old matchers.old }
-    ensures answer { IfOk result (λ answer. answer ≡ (rewritten (C.lists choices.old) target.old).answer) }
-    ensures target { OnOk result (target.new ≡ (rewritten (C.lists choices.old) target.old).target) }
-    ensures present { OnOk result (C.present choices.new ≡ target.new) }
-    ensures compared { OnOk result (C.compared choices.new ≤ C.compared choices.old + ((rewritten (C.lists choices.old) target.old).passes + 1) * C.most choices.old) }
-    ensures bounded { C.compared choices.new ≤ C.compared choices.old + 101 * C.most choices.old }
-    ensures lists { C.lists choices.new ≡ C.lists choices.old }
-    ensures belongs { (patterns : List Marked) → C.belongs choices.old patterns → C.belongs choices.new patterns }
+    requires right { C.right choices.now target.old conds.old }
+    requires patterns { C.belongs choices.now matchers.old }
+    ensures answer { IfOk result (λ answer. answer ≡ (rewritten (C.lists choices.now) target.old).answer) }
+    ensures target { OnOk result (target.new ≡ (rewritten (C.lists choices.now) target.old).target) }
+    ensures right { C.right choices.now target.new conds.new }
+    ensures steps { OnOk result (steps.new + C.asked conds.old
+        ≤ steps.old + (rewritten (C.lists choices.now) target.old).passes * C.most choices.now + C.asked conds.new) }
+    ensures bounded { steps.new + C.asked conds.old ≤ steps.old + 100 * C.most choices.now + C.asked conds.new + 1 }
     ensures matchers { matchers.new ≡ matchers.old }
 {
     let mut passes = 0u32;
     while passes < MOST {
-        match look(alloc, matchers, choices, target) {
+        match look(alloc, choices, target, conds, matchers, steps) {
             Ok(Pass::Kept) => return Ok(answer_after(passes)),
             Ok(Pass::Bad) => return Ok(Rewritten::Bad),
             Ok(Pass::Once) => return Ok(Rewritten::New),
@@ -166,6 +146,6 @@ pub fn rewrite<C: Choices>(
         }
         passes += 1;
     }
-    let last = next(alloc, matchers, choices, target.raw.bytes())?;
+    let last = choices.next(alloc, target, conds, matchers, steps)?;
     Ok(at_limit(&last))
 }

@@ -1,28 +1,27 @@
 //! Examples of lighttpd's documentation of mod_rewrite, and how a rewriting ends.
-ghost use Rattle.std.specs.Prelude.{◌≡◌, IfOk, Some, option_map, unwrap_or};
+ghost use Rattle.std.specs.Prelude.{◌≡◌, ◌<◌, IfOk, Some, option_map, unwrap_or};
 ghost use Rattle.conditions.specs.Groups.{IsPatternOf};
 ghost use Rattle.rewrite.specs.Rules.{rule_of};
 
-use crate::{Choices, Rewritten, Rules, rewrite};
-use conditions::{Groups, Made, Matchers, PatternMaker, RegexMaker};
+use crate::{Choices, Next, Rewritten, Rules, next_of, rewrite};
+use conditions::{Groups, Made, Matchers, PatternMaker, RegexMaker, Steps};
 use conf_value::{Pair, Value};
 use http_target::{Target, TargetRefusal, read_target};
 use lt_bytes::{NoMemory, Text};
 use regex::bytes::Regex;
 use std::alloc::Global;
+use std::marker::Brand;
+use std::sync::ledger::{Blank, Ledger};
 use std::test::Fail;
 
-/// A list whose block has a pattern as its condition, on the host or, where there is none, on the path. Pattern 0 is
+/// Lists whose block has a pattern as its condition, on the host or, where there is none, on the path. Pattern 0 is
 /// the condition's, and the rules' follow.
-#[derive(Drop)]
+#[derive(Clone, Copy)]
 struct Ruled<'a> {
-    alloc: Global,
     once: &'a [Pair],
     repeat: &'a [Pair],
     condition: &'a [u8],
     host: Option<&'a [u8]>,
-    outer: Groups,
-    target: Target,
 }
 
 impl Choices for Ruled<'_> {
@@ -30,67 +29,59 @@ impl Choices for Ruled<'_> {
     ghost use Rattle.conditions.specs.Groups.{groups_by};
     ghost use Rattle.rewrite.specs.Rules.{AreNumbered};
 
+    type Conds = ();
+
     ghost lists = { λ a target. record {
       once = record { rules = a.once.now; outer = unwrap_or (groups_by a.condition.now (unwrap_or (option_map (λ host. host.now) a.host) target.path)) [] };
       repeat = record { rules = a.repeat.now; outer = unwrap_or (groups_by a.condition.now (unwrap_or (option_map (λ host. host.now) a.host) target.path)) [] };
     } };
 
-    ghost present = { λ a. a.target };
+    ghost right = { λ a target conds. Unit {0} };
 
-    ghost belongs = { λ a patterns. (slice_get patterns 0 ≡ Some (a.condition.now, true)) × (AreNumbered patterns 1 a.once.now × AreNumbered patterns 1 a.repeat.now) };
-
-    ghost known = { λ a. a.outer ≡ unwrap_or (groups_by a.condition.now (unwrap_or (option_map (λ host. host.now) a.host) a.target.path)) [] };
-
-    ghost compared = { λ a. 0 };
+    ghost asked = { λ conds. 0 };
 
     ghost most = { λ a. 0 };
 
-    fn choose(&mut self, matchers: &mut Matchers<'_>) -> Result<(), NoMemory> {
-        let subject = subject(self.alloc, self.host, self.target.path.bytes())?;
-        matchers.find(0, subject.bytes(), &mut self.outer)?;
-        Ok(())
-    }
+    ghost belongs = { λ a patterns. (slice_get patterns 0 ≡ Some (a.condition.now, true)) × (AreNumbered patterns 1 a.once.now × AreNumbered patterns 1 a.repeat.now) };
 
-    fn once(&self) -> Rules<'_> {
-        Rules {
+    fn next<L: Ledger>(
+        &self,
+        alloc: Global,
+        target: &Target,
+        conds: &mut (),
+        matchers: &mut Matchers<'_>,
+        steps: &mut Steps<L>,
+    ) -> Result<Next, NoMemory> {
+        let _ = conds;
+        let _ = steps;
+        let mut outer = Groups::new(alloc);
+        matchers.find(0, subject(self.host, target.path.bytes()), &mut outer)?;
+        let once = Rules {
             first_pattern: 1,
             pairs: self.once,
-            outer: &self.outer,
-        }
-    }
-
-    fn repeat(&self) -> Rules<'_> {
-        Rules {
+            outer: &outer,
+        };
+        let repeat = Rules {
             first_pattern: 1,
             pairs: self.repeat,
-            outer: &self.outer,
-        }
+            outer: &outer,
+        };
+        next_of(alloc, matchers, once, repeat, target.raw.bytes())
     }
 
-    fn set_target(&mut self, target: &Target) -> Result<(), NoMemory> {
-        self.target = copy(self.alloc, target)?;
-        Ok(())
+    fn set_target(&self, conds: &mut ()) {
+        let _ = conds;
     }
 }
 
 /// The host, or the path where there is no host.
-fn subject(alloc: Global, host: Option<&[u8]>, path: &[u8]) -> Result<Text, NoMemory>
-    ensures { IfOk result (λ text. text ≡ unwrap_or (option_map (λ host. host.now) host.entry) path.now) }
+fn subject<'a>(host: Option<&'a [u8]>, path: &'a [u8]) -> &'a [u8]
+    ensures { result.now ≡ unwrap_or (option_map (λ host. host.now) host.entry) path.now }
 {
     match host {
-        Some(host) => Text::from_bytes(alloc, host),
-        None => Text::from_bytes(alloc, path),
+        Some(host) => host,
+        None => path,
     }
-}
-
-fn copy(alloc: Global, target: &Target) -> Result<Target, NoMemory>
-    ensures { IfOk result (λ copy. copy ≡ target.now) }
-{
-    Ok(Target {
-        raw: Text::from_bytes(alloc, target.raw.bytes())?,
-        path: Text::from_bytes(alloc, target.path.bytes())?,
-        query: Text::from_bytes(alloc, target.query.bytes())?,
-    })
 }
 
 fn rule(alloc: Global, pattern: &[u8], replacement: &[u8]) -> Result<Pair, NoMemory>
@@ -121,31 +112,40 @@ fn target(alloc: Global, sent: &[u8]) -> Result<Target, NoMemory> {
     }
 }
 
-/// How the rewriting ends, and the target then.
-fn ended(
+/// How the rewriting ends, by a count of its own, and the target then.
+fn ended<L: Ledger>(
+    blank: Blank,
     alloc: Global,
     case: &Case<'_>,
     condition: &Regex,
     pattern: &Regex,
 ) -> Result<(Rewritten, Text), NoMemory>
+    requires name { blank.name ≡ L.name }
+    requires parts { blank.parts ≡ L.parts }
+    requires some { 0 < L.parts }
     requires condition { IsPatternOf case.now.condition.now condition.now }
     requires pattern { IsPatternOf case.now.pattern.now pattern.now }
 {
+    let mut steps: Steps<L> = Steps::new(blank);
     let mut matchers = Matchers::new(alloc);
     let _ = matchers.add(condition, true)?;
     let _ = matchers.add(pattern, true)?;
     let pairs = [rule(alloc, case.pattern, case.replacement)?];
     let mut target = target(alloc, case.sent)?;
-    let mut choices = Ruled {
-        alloc,
+    let choices = Ruled {
         once: if case.repeats { &[] } else { &pairs },
         repeat: if case.repeats { &pairs } else { &[] },
         condition: case.condition,
         host: case.host,
-        outer: Groups::new(alloc),
-        target: copy(alloc, &target)?,
     };
-    let answer = rewrite(alloc, &mut matchers, &mut choices, &mut target)?;
+    let answer = rewrite(
+        alloc,
+        &choices,
+        &mut target,
+        &mut (),
+        &mut matchers,
+        &mut steps,
+    )?;
     Ok((answer, target.raw))
 }
 
@@ -158,7 +158,7 @@ fn end(alloc: Global, case: &Case<'_>) -> Result<(Rewritten, Text), NoMemory> {
     let Made::Pattern(pattern) = maker.make(case.pattern) else {
         return Err(NoMemory);
     };
-    ended(alloc, case, &condition, &pattern)
+    ended::<Brand>(Blank::new(1), alloc, case, &condition, &pattern)
 }
 
 #[test]
