@@ -130,6 +130,10 @@ pub record AreRight (blocks : List Block) (a : Attributes) (places : List Place)
   pub each : (n : ℕ) (block : Block) (s : Standing) (place : Place) → slice_get blocks n ≡ Some block
       → slice_get (standings blocks a) n ≡ Some s → slice_get places n ≡ Some place → IsRight a block s place
 
+-- there is a place for each block
+abbrev pub HavePlaces : List Block → List Place → Type 0
+HavePlaces blocks places = length places ≡ length blocks
+
 -- each pattern of a condition is there
 abbrev pub HavePatterns : List Block → List Marked → Type 0
 HavePatterns blocks patterns = (n : ℕ) (block : Block) (condition : Condition) → slice_get blocks n ≡ Some block

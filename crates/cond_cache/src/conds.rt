@@ -5,7 +5,7 @@ ghost use Rattle.conf_value.specs.declared.truth.Truth.TheVariants as truth;
 ghost use Rattle.conditions.specs.Attributes.{Attributes, attributes_of};
 ghost use Rattle.settings.specs.InForm.{IsInForm};
 ghost use Rattle.cond_cache.specs.Truths.{truth_of};
-ghost use Rattle.cond_cache.specs.Kept.{AreRight, Counts, HavePatterns, Stay, asked, emptied, groups_at, kept, with_physical, with_target};
+ghost use Rattle.cond_cache.specs.Kept.{AreRight, Counts, HavePatterns, HavePlaces, Stay, asked, emptied, groups_at, kept, with_physical, with_target};
 
 use crate::finding::find;
 use crate::place::Place;
@@ -52,6 +52,7 @@ impl RequestConds {
     /// Nothing is found yet of the blocks of this configuration.
     pub fn new(alloc: Global, config: &Config) -> Result<RequestConds, NoMemory>
         ensures right { IfOk result (λ conds. (a : Attributes) → AreRight config.now.blocks a conds) }
+        ensures places { IfOk result (λ conds. HavePlaces config.now.blocks conds) }
         ensures none { IfOk result (λ conds. asked conds ≡ []) }
     {
         let places = unasked(alloc, config.blocks.len())?;
@@ -61,9 +62,10 @@ impl RequestConds {
         })
     }
 
-    /// Nothing is found any more, as it must be where the attributes change.
+    /// Nothing is found any more, as it must be where the attributes change. It takes no memory, so that one value that is
+    /// made for a configuration serves all requests.
     pub fn empty(&mut self)
-        ensures right { (blocks : List Block) (a b : Attributes) → AreRight blocks a self.old → AreRight blocks b self.new }
+        ensures right { (blocks : List Block) (a : Attributes) → HavePlaces blocks self.old → AreRight blocks a self.new }
         ensures none { asked self.new ≡ [] }
     {
         empty(&mut self.places);
@@ -73,7 +75,7 @@ impl RequestConds {
     /// and nothing that was found before counts.
     pub fn set_target<'r>(&mut self, attrs: &Attrs<'r>, url: &'r [u8], query: &'r [u8]) -> Attrs<'r>
         ensures attributes { attributes_of result ≡ with_target url.now query.now (attributes_of attrs.now) }
-        ensures right { (blocks : List Block) (a b : Attributes) → AreRight blocks a self.old → AreRight blocks b self.new }
+        ensures right { (blocks : List Block) (a : Attributes) → HavePlaces blocks self.old → AreRight blocks a self.new }
         ensures none { asked self.new ≡ [] }
     {
         self.empty();
@@ -98,7 +100,7 @@ impl RequestConds {
         physical: &'r [u8],
     ) -> Attrs<'r>
         ensures attributes { attributes_of result ≡ with_physical url.now physical.now (attributes_of attrs.now) }
-        ensures right { (blocks : List Block) (a b : Attributes) → AreRight blocks a self.old → AreRight blocks b self.new }
+        ensures right { (blocks : List Block) (a : Attributes) → HavePlaces blocks self.old → AreRight blocks a self.new }
         ensures none { asked self.new ≡ [] }
     {
         self.empty();
