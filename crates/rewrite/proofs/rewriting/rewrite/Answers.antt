@@ -1,5 +1,5 @@
-use Rattle.std.proofs.Common.{◌≡◌, ◌+◌, ◌≤◌, refl, sym, ap, ◌∙◌, arith}
-use Rattle.rewrite.specs.Rewriting.{Ended, next_of, rewritten}
+use Rattle.std.proofs.Common.{◌≡◌, ◌+◌, refl, sym, ap, ◌∙◌, arith}
+use Rattle.rewrite.specs.Rewriting.{Ended, rewritten}
 use Rattle.rewrite.specs.Passing.{limit_answer}
 use Rattle.rewrite.proofs.EndLaws.{passes_within}
 use Rattle.rewrite.proofs.Looping.{at_kept, at_bad, at_once, at_repeat, at_end, kept_cost, taken_cost, err_cost, within_cost, new_after}
