@@ -3,3 +3,4 @@ pub mod Request
 pub mod Pairs
 pub mod Params
 pub mod Head
+pub mod Attempts

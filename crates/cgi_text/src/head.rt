@@ -64,7 +64,7 @@ fn empty_line(bytes: &[u8]) -> usize
 }
 
 /// Where the head ends: behind its first empty line, before which no line need stand.
-fn section_end(bytes: &[u8]) -> HeadEnd
+pub fn section_end(bytes: &[u8]) -> HeadEnd
     ensures value { result ≡ section_end bytes.now }
     ensures within { IsWithin (length bytes.now) result }
 {

@@ -20,7 +20,7 @@ mod values;
 mod variables;
 
 pub use address::push_ip;
-pub use head::{CgiHead, CgiRefusal, read_cgi_head};
+pub use head::{CgiHead, CgiRefusal, read_cgi_head, section_end};
 pub use passed::{passed_fields, stated_length};
 pub use request::GateRequest;
 pub use state::GateState;
