@@ -1,3 +1,4 @@
 pub mod Ranges
 pub mod Spelled
 pub mod Sums
+pub mod Arriving

@@ -1,15 +1,14 @@
 -- Numbers in a row, with one more at their end.
-use Rattle.std.proofs.Common.{◌≡◌, ℕ, zero, suc, ◌+◌, ◌-◌, ◌^◌, ◌≤◌, min, Bool, true, false, cond, List, [], ◌∷◌, ◌++◌, length, flat_map, refl, ap, ◌∙◌, arith, append-nil}
-use Rattle.std.specs.List.{range_with_len, sum_by}
+use Rattle.std.proofs.Common.{◌≡◌, ℕ, zero, suc, ◌+◌, ◌-◌, ◌^◌, ◌≤◌, min, Bool, true, false, cond, List, [], ◌∷◌, ◌++◌, flat_map, refl, ap, ◌∙◌, arith, append-nil}
+use Rattle.std.specs.List.{range_with_len, sum_by, count_by}
 use Rattle.std.specs.Int.{from_bool}
 use Rattle.std.proofs.lemmas.Grind.{flat_map-append}
 use Rattle.std.proofs.lemmas.List.Sums.{sum_by_push}
 use Rattle.lt_script.specs.declared.script.Step.{Step}
-use Rattle.lt_world.specs.Trace.{Entry, own}
-use Rattle.lt_world.specs.Acts.{output_of, ending_of}
+use Rattle.lt_world.specs.Trace.{Act, Entry, own}
 use Rattle.script_gen.specs.Draws.{after, drawn}
 use Rattle.script_gen.specs.Generated.{client, clients_below}
-use Rattle.script_gen.specs.Totals.{is_clean, clean_below, bytes_below, counted}
+use Rattle.script_gen.specs.Totals.{bytes_below, client_bytes, counted}
 
 range_push : (a n last : ℕ) → a + n ≡ last → range_with_len a (suc n) ≡ range_with_len a n ++ last ∷ []
 range_push a zero last is = let e : a ≡ last = omega (arith, is) in ap (λ (k : ℕ). k ∷ []) e
@@ -33,18 +32,18 @@ clients_more clients k =
     ∙ ap (λ steps. flat_map one (range_with_len 0 k) ++ steps) (append-nil (one k))
 
 -- one link more
-pub clean_more : (trace : List Entry) (link : ℕ) → clean_below (link + 1) trace ≡ clean_below link trace + cond (is_clean (ending_of (own link trace))) 1 0
-clean_more trace link =
-    let one : ℕ → ℕ = λ at. cond (is_clean (ending_of (own at trace))) 1 0 in
+pub count_more : (test : List Act → Bool) (trace : List Entry) (link : ℕ) → count_by (λ at. test (own at trace)) (range_with_len 0 (link + 1)) ≡ count_by (λ at. test (own at trace)) (range_with_len 0 link) + cond (test (own link trace)) 1 0
+count_more test trace link =
+    let one : ℕ → ℕ = λ at. cond (test (own at trace)) 1 0 in
     ap (sum_by one) (range_more link) ∙ sum_by_push one (range_with_len 0 link) link
 
-bytes_more : (trace : List Entry) (link : ℕ) → bytes_below (link + 1) trace ≡ bytes_below link trace + length (output_of (own link trace))
+bytes_more : (trace : List Entry) (link : ℕ) → bytes_below (link + 1) trace ≡ bytes_below link trace + client_bytes (own link trace)
 bytes_more trace link =
-    let one : ℕ → ℕ = λ at. length (output_of (own at trace)) in
+    let one : ℕ → ℕ = λ at. client_bytes (own at trace) in
     ap (sum_by one) (range_more link) ∙ sum_by_push one (range_with_len 0 link) link
 
 -- a count that stood still stands still
-pub counted_more : (trace : List Entry) (link : ℕ) → counted (bytes_below (link + 1) trace) ≡ min (counted (bytes_below link trace) + length (output_of (own link trace))) (2 ^ 64 - 1)
+pub counted_more : (trace : List Entry) (link : ℕ) → counted (bytes_below (link + 1) trace) ≡ min (counted (bytes_below link trace) + client_bytes (own link trace)) (2 ^ 64 - 1)
 counted_more trace link = ap counted (bytes_more trace link) ∙ omega arith
 
 -- a truth as a number

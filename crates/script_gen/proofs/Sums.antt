@@ -1,4 +1,4 @@
--- The bytes of all links are those of all writes.
+-- The bytes of all clients are those of all writes to them.
 use Rattle.std.proofs.Common.{◌≡◌, ℕ, zero, suc, ◌+◌, ◌<◌, ◌≤◌, Bool, true, false, List, [], ◌∷◌, length, refl, ap, sym, ◌∙◌, arith, length-append, ◌==◌, if◌then◌else◌}
 use Rattle.std.specs.List.{range_with_len, sum_by}
 use Rattle.std.proofs.lemmas.Bool.Decides.{nat_tests}
@@ -6,7 +6,7 @@ use Rattle.std.proofs.lemmas.List.Sums.{sum_by-cons}
 use Rattle.lt_world.specs.Trace.{Act, Entry, own, link_bound, Accepted, Readable, Writable, Read, ReadEnd, NotYet, Failed, Wrote, Connect, Close}
 use Rattle.lt_world.specs.Acts.{output_of}
 use Rattle.script_gen.specs.Laws.{taken_by, BytesAreOfAllWrites}
-use Rattle.script_gen.specs.Totals.{bytes_below}
+use Rattle.script_net.specs.Arrivals.{has_arrived}
 
 -- an act adds what it took
 output_more : (act : Act) (acts : List Act) → length (output_of (act ∷ acts)) ≡ length (output_of acts) + taken_by act
@@ -50,22 +50,39 @@ sum_at first zero at more f g differ low high = absurd (omega (arith, low, high)
 sum_at first (suc n) at more f g differ low high =
     sum_by_test (at == first) first n at more f g refl differ low high (λ above. sum_at (first + 1) n at more f g differ above (omega (arith, high)))
 
--- one entry more
+-- one entry more, where the links count that this picks
 
-own_by : (t : Bool) (act : Act) (acts : List Act) → length (output_of (if t then act ∷ acts else acts)) ≡ (if t then length (output_of acts) + taken_by act else length (output_of acts))
-own_by true act acts = output_more act acts
-own_by false act acts = refl
+abbrev only : Bool → ℕ → ℕ
+only b n = if b then n else 0
 
-none_below : (first n : ℕ) → sum_by (λ (link : ℕ). 0) (range_with_len first n) ≡ 0
-none_below first zero = refl
-none_below first (suc n) = sum_by-cons (λ (link : ℕ). 0) first (range_with_len (first + 1) n) ∙ omega (arith, none_below (first + 1) n)
+own_by : (b t : Bool) (act : Act) (acts : List Act) → only b (length (output_of (if t then act ∷ acts else acts))) ≡ (if t then only b (length (output_of acts)) + only b (taken_by act) else only b (length (output_of acts)))
+own_by true true act acts = output_more act acts
+own_by true false act acts = refl
+own_by false true act acts = refl
+own_by false false act acts = refl
 
-all_below : (trace : List Entry) (n : ℕ) → link_bound trace ≤ n → bytes_below n trace ≡ sum_by (λ (entry : Entry). taken_by entry.act) trace
-all_below [] n few = none_below 0 n
-all_below (entry ∷ trace) n few =
-    sum_at 0 n entry.link (taken_by entry.act) (λ link. length (output_of (own link (entry ∷ trace)))) (λ link. length (output_of (own link trace)))
-    (λ link. own_by (entry.link == link) entry.act (own link trace)) (omega arith) (grind (arith, few))
-    ∙ omega (arith, all_below trace n (grind (arith, few)), sum_by-cons (λ (entry : Entry). taken_by entry.act) entry trace)
+differ_by : (picks : ℕ → Bool) (entry : Entry) (acts : List Act) (k : ℕ) (t : Bool) → (entry.link == k) ≡ t
+    → only (picks k) (length (output_of (if t then entry.act ∷ acts else acts))) ≡ (if t then only (picks k) (length (output_of acts)) + only (picks entry.link) (taken_by entry.act) else only (picks k) (length (output_of acts)))
+differ_by picks entry acts k true test =
+    let same : k ≡ entry.link = grind (arith, nat_tests, test) in
+    own_by (picks k) true entry.act acts ∙ ap (λ (at : ℕ). only (picks k) (length (output_of acts)) + only (picks at) (taken_by entry.act)) same
+differ_by picks entry acts k false test = refl
+
+only_none : (b : Bool) → only b 0 ≡ 0
+only_none true = refl
+only_none false = refl
+
+none_below : (picks : ℕ → Bool) (first n : ℕ) → sum_by (λ (link : ℕ). only (picks link) 0) (range_with_len first n) ≡ 0
+none_below picks first zero = refl
+none_below picks first (suc n) = sum_by-cons (λ (link : ℕ). only (picks link) 0) first (range_with_len (first + 1) n) ∙ omega (arith, none_below picks (first + 1) n, only_none (picks first))
+
+all_below : (picks : ℕ → Bool) (trace : List Entry) (n : ℕ) → link_bound trace ≤ n
+    → sum_by (λ (link : ℕ). only (picks link) (length (output_of (own link trace)))) (range_with_len 0 n) ≡ sum_by (λ (entry : Entry). only (picks entry.link) (taken_by entry.act)) trace
+all_below picks [] n few = none_below picks 0 n
+all_below picks (entry ∷ trace) n few =
+    sum_at 0 n entry.link (only (picks entry.link) (taken_by entry.act)) (λ link. only (picks link) (length (output_of (own link (entry ∷ trace))))) (λ link. only (picks link) (length (output_of (own link trace))))
+    (λ link. differ_by picks entry (own link trace) link (entry.link == link) refl) (omega arith) (grind (arith, few))
+    ∙ omega (arith, all_below picks trace n (grind (arith, few)), sum_by-cons (λ (e : Entry). only (picks e.link) (taken_by e.act)) entry trace)
 
 pub of_all_writes : BytesAreOfAllWrites
-of_all_writes trace = all_below trace (link_bound trace) (omega arith)
+of_all_writes trace = all_below (λ link. has_arrived (own link trace)) trace (link_bound trace) (omega arith)

@@ -2,7 +2,7 @@
 ghost use Rattle.std.specs.Prelude.{◌≡◌, ◌≤◌, ℕ};
 ghost use Rattle.script_gen.specs.declared.generating.TheConstants.{CLIENT_LIMIT};
 ghost use Rattle.script_gen.specs.Draws.{after, drawn, file_of, piece_of};
-ghost use Rattle.script_gen.specs.Laws.{BytesAreOfAllWrites};
+ghost use Rattle.script_gen.specs.Laws.{BytesAreOfAllWrites, EveryClientArrives};
 
 /// The most clients of a script.
 pub fn limits()
@@ -23,7 +23,12 @@ pub fn the_first_draw()
     ensures piece { piece_of (drawn 1 1) ≡ 2964 }
 {}
 
-/// The bytes of a summary are those of all writes, each once, whatever link took them.
+/// The bytes of a summary are those of all writes to clients, each once.
 pub fn the_bytes_are_those_of_all_writes()
     ensures { BytesAreOfAllWrites }
+{}
+
+/// A generated script that was played to its end has brought as many clients as it is for: the first number of a summary.
+pub fn every_client_arrives()
+    ensures { EveryClientArrives }
 {}

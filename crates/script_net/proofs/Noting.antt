@@ -1,5 +1,5 @@
 -- Notes of a net: what they stand for stays as the links' bytes grow.
-use Rattle.std.proofs.Common.{◌≡◌, ℕ, zero, suc, Some, None, ◌+◌, ◌<◌, ◌≤◌, max, Bool, true, false, List, [], ◌∷◌, ◌++◌, length, take, drop, set, map, reverse, refl, ap, sym, subst, ◌∙◌, arith, append-nil, if◌then◌else◌, ◌==◌, length-append, length-drop}
+use Rattle.std.proofs.Common.{◌≡◌, ℕ, zero, suc, Some, None, ◌+◌, ◌<◌, ◌≤◌, max, Bool, true, false, List, [], ◌∷◌, ◌++◌, length, take, drop, set, map, reverse, refl, ap, sym, subst, ◌∙◌, arith, append-nil, if◌then◌else◌, ◌==◌, nat_lt, length-append, length-drop}
 use Rattle.std.proofs.lemmas.Bool.Decides.{nat_tests}
 use Rattle.std.proofs.lemmas.List.{take-append-le, drop-append-le, map-append, reverse-append, get_or-set_same, get_or-set_other, get_or_past}
 use Rattle.std.proofs.Math.ListN.{length-set}
@@ -11,6 +11,7 @@ use Rattle.script_net.specs.declared.notes.Note.{Note}
 use Rattle.script_net.specs.PortView.{PortView, kept_at, fresh_kept, no_kept}
 use Rattle.script_net.specs.Notes.{act_of, entry_of, trace_of, fits, AreWithin, IsTold}
 use Rattle.lt_world.specs.Acts.{output_of, ending_of}
+use Rattle.script_net.specs.Arrivals.{has_arrived}
 
 abbrev pub Begins : List ℕ → List ℕ → Type 0
 Begins front whole = (more : List ℕ) × (whole ≡ front ++ more)
@@ -67,18 +68,54 @@ trace_next before after notes note grow within =
     ap reverse (map-append (entry_of after) notes (note ∷ [])) ∙ reverse-append (map (entry_of after) notes) (entry_of after note ∷ [])
     ∙ ap (λ (es : List Entry). entry_of after note ∷ reverse es) (notes_kept before after notes grow within).0
 
+-- a link that arrived has arrived, whatever comes after
+
+arrived_by : (act : Act) (acts : List Act) → has_arrived acts ≡ true → has_arrived (act ∷ acts) ≡ true
+arrived_by (Accepted peer local) acts arrived = refl
+arrived_by Readable acts arrived = arrived
+arrived_by Writable acts arrived = arrived
+arrived_by (Read asked bytes) acts arrived = arrived
+arrived_by ReadEnd acts arrived = arrived
+arrived_by (NotYet way) acts arrived = arrived
+arrived_by (Failed way) acts arrived = arrived
+arrived_by (Wrote offered bytes) acts arrived = arrived
+arrived_by (Connect owner to link) acts arrived = arrived
+arrived_by (Close ending) acts arrived = arrived
+
+arrived_still : (t : Bool) (act : Act) (acts : List Act) → has_arrived acts ≡ true → has_arrived (if t then act ∷ acts else acts) ≡ true
+arrived_still true act acts arrived = arrived_by act acts arrived
+arrived_still false act acts arrived = arrived
+
+-- and one that no entry is of has not
+pub unarrived : (link : ℕ) (trace : List Entry) → link_bound trace ≤ link → has_arrived (own link trace) ≡ false
+unarrived link [] above = refl
+unarrived link (entry ∷ trace) above =
+    let other : (entry.link == link) ≡ false = grind (arith, nat_tests, above) in
+    ap (λ (t : Bool). has_arrived (if t then entry.act ∷ own link trace else own link trace)) other ∙ unarrived link trace (omega (arith, above))
+
+-- so just the links that are kept arrived
+pub arrived_below : (ports : List PortView) (notes : List Note) (link : ℕ) → link_bound (trace_of ports notes) ≡ length ports
+    → (link < length ports → has_arrived (own link (trace_of ports notes)) ≡ true) → nat_lt link (length ports) ≡ has_arrived (own link (trace_of ports notes))
+arrived_below ports notes link named arrived = by (nat_lt link (length ports)) refl
+  where
+    by : (t : Bool) → nat_lt link (length ports) ≡ t → t ≡ has_arrived (own link (trace_of ports notes))
+    by true is = sym (arrived (grind (arith, nat_tests, is)))
+    by false is = sym (unarrived link (trace_of ports notes) (grind (arith, nat_tests, is, named)))
+
 told_next : (before after : List PortView) (notes : List Note) (note : Note) → IsTold before notes → AllGrow before after → note.link < length after → fits note.done (kept_at note.link after)
     → length after ≤ 4294967295 → link_bound (entry_of after note ∷ trace_of before notes) ≡ length after
     → ((link : ℕ) → (kept_at link after).taken ≡ output_of (own link (entry_of after note ∷ trace_of before notes)))
     → ((link : ℕ) → (kept_at link after).ending ≡ ending_of (own link (entry_of after note ∷ trace_of before notes)))
+    → ((link : ℕ) → link < length after → has_arrived (own link (entry_of after note ∷ trace_of before notes)) ≡ true)
     → IsTold after (notes ++ note ∷ [])
-told_next before after notes note told grow below fit few named taken ending =
+told_next before after notes note told grow below fit few named taken ending arrived =
     let next : trace_of after (notes ++ note ∷ []) ≡ entry_of after note ∷ trace_of before notes = trace_next before after notes note grow told.within in
     record {
       within = within_more after notes note (notes_kept before after notes grow told.within).1 below fit;
       taken = λ link. taken link ∙ ap (λ (t : List Entry). output_of (own link t)) (sym next);
       ending = λ link. ending link ∙ ap (λ (t : List Entry). ending_of (own link t)) (sym next);
       named = ap link_bound next ∙ named;
+      arrived = λ link there. ap (λ (t : List Entry). has_arrived (own link t)) next ∙ arrived link there;
       few = few;
     }
 
@@ -148,6 +185,7 @@ told_set before notes link what now told below becomes =
     (bound_same link (dial_bound (act_of what (kept_at link after))) (link_bound trace) (no_dial what (kept_at link after)) (omega (arith, told.named)) ∙ told.named ∙ sym (length-set {A = PortView} before link now))
     (λ other. set_field (λ q. q.taken) output_of (link == other) before link other now (act_of what (kept_at link after)) trace refl below told.taken (becomes.taken ∙ ap (λ (a : Act). output_of (a ∷ own link trace)) (sym act)))
     (λ other. set_field (λ q. q.ending) ending_of (link == other) before link other now (act_of what (kept_at link after)) trace refl below told.ending (becomes.ending ∙ ap (λ (a : Act). ending_of (a ∷ own link trace)) (sym act)))
+    (λ other there. arrived_still (link == other) (act_of what (kept_at link after)) (own other trace) (told.arrived other (omega (arith, there, length-set {A = PortView} before link now))))
 
 pub trace_set : (before : List PortView) (notes : List Note) (link : ℕ) (what : Done) (now : PortView) → IsTold before notes → link < length before → PortGrows (kept_at link before) now
     → trace_of (set before link now) (notes ++ record { link = link; done = what } ∷ []) ≡ said link (act_of what now ∷ []) (trace_of before notes)
@@ -205,6 +243,12 @@ nothing_closed : (t : Bool) (peer local : Address) (acts : List Act) → (t ≡ 
 nothing_closed true peer local acts unclosed = sym (unclosed refl)
 nothing_closed false peer local acts unclosed = refl
 
+-- the one that comes has arrived, and so have those before it
+arrived_push : (t : Bool) (before : List PortView) (link : ℕ) (peer local : Address) (acts : List Act) → (length before == link) ≡ t → link < length before + 1
+    → (link < length before → has_arrived acts ≡ true) → has_arrived (if t then Accepted peer local ∷ acts else acts) ≡ true
+arrived_push true before link peer local acts test there arrived = refl
+arrived_push false before link peer local acts test there arrived = arrived (grind (arith, nat_tests, test, there))
+
 -- a link that is still to come has no ending
 unkept : (before : List PortView) (link : ℕ) → (length before == link) ≡ true → (kept_at link before).ending ≡ None
 unkept before link next =
@@ -222,6 +266,7 @@ told_push before notes peer local told few =
     (omega (arith, len, told.named))
     (λ link. field_push (λ q. q.taken) before link refl ∙ told.taken link ∙ sym (nothing_taken (length before == link) peer local (own link (trace_of before notes))))
     (λ link. field_push (λ q. q.ending) before link refl ∙ told.ending link ∙ sym (nothing_closed (length before == link) peer local (own link (trace_of before notes)) (λ next. sym (told.ending link) ∙ unkept before link next)))
+    (λ link there. arrived_push (length before == link) before link peer local (own link (trace_of before notes)) refl (omega (arith, there, len)) (told.arrived link))
 
 pub trace_push : (before : List PortView) (notes : List Note) (peer local : Address) → IsTold before notes
     → trace_of (before ++ fresh_kept ∷ []) (notes ++ arrival (length before) peer local ∷ []) ≡ said (length before) (Accepted peer local ∷ []) (trace_of before notes)

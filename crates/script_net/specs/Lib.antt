@@ -1,6 +1,7 @@
 pub mod Letters
 pub mod Sides
 pub mod Steps
+pub mod Arrivals
 pub mod Calls
 pub mod Plays
 pub mod Waited

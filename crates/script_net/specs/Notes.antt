@@ -1,5 +1,5 @@
 -- For proofs alone: the trace that short notes stand for, where the bytes are kept with the links.
-use Rattle.std.specs.Prelude.{◌≡◌, ℕ, ◌+◌, ◌-◌, ◌<◌, ◌≤◌, List, [], ◌∷◌, length, take, drop, reverse, map, None, vec_len, vec_capacity}
+use Rattle.std.specs.Prelude.{◌≡◌, ℕ, ◌+◌, ◌-◌, ◌<◌, ◌≤◌, true, List, [], ◌∷◌, length, take, drop, reverse, map, None, vec_len, vec_capacity}
 use Rattle.lt_world.specs.Trace.{Act, Entry, Accepted, Readable, Writable, Read, ReadEnd, NotYet, Failed, Reading, Writing, Wrote, Connect, Close, own, link_bound}
 use Rattle.script_net.specs.declared.notes.Done.{Done}
 use Rattle.script_net.specs.declared.notes.Done.TheVariants as done
@@ -7,6 +7,7 @@ use Rattle.script_net.specs.declared.notes.Note.{Note}
 use Rattle.script_net.specs.declared.links.Links.TheInside.{Inside}
 use Rattle.script_net.specs.PortView.{PortView, kept_at}
 use Rattle.lt_world.specs.Acts.{output_of, ending_of}
+use Rattle.script_net.specs.Arrivals.{has_arrived}
 use Rattle.script_net.specs.LinksView.{LinksView}
 
 -- what a note says, of a link for which this is kept
@@ -58,6 +59,7 @@ pub record IsTold (ports : List PortView) (notes : List Note) : Type 0 where
   -- each link keeps what it took, and how it was closed
   pub taken : (link : ℕ) → (kept_at link ports).taken ≡ output_of (own link (trace_of ports notes))
   pub ending : (link : ℕ) → (kept_at link ports).ending ≡ ending_of (own link (trace_of ports notes))
-  -- each link arrived
+  -- each link is told of, and arrived
   pub named : link_bound (trace_of ports notes) ≡ length ports
+  pub arrived : (link : ℕ) → link < length ports → has_arrived (own link (trace_of ports notes)) ≡ true
   pub few : length ports ≤ 4294967295

@@ -7,6 +7,7 @@ ghost use Rattle.script_net.specs.Sides.{side_at, gives, with_bytes, with_end, w
 ghost use Rattle.script_net.specs.Steps.{change};
 ghost use Rattle.script_net.specs.Calls.{some_taken};
 ghost use Rattle.lt_world.specs.Acts.{output_of, ending_of};
+ghost use Rattle.script_net.specs.Arrivals.{has_arrived};
 ghost use Rattle.script_net.specs.LinksView.{no_links, Tells, Stays};
 
 use crate::notes::{Done, Note, read_done, write_done};
@@ -74,6 +75,13 @@ impl Links {
             None => false,
             Some(port) => port.writes_fail(),
         }
+    }
+
+    /// Whether a link arrived. Every link did, since none is dialled.
+    pub fn has_arrived(&self, link: usize) -> bool
+        ensures { result ≡ has_arrived (own link self.now.trace) }
+    {
+        link < self.ports.len()
     }
 
     /// The bytes that a link took.

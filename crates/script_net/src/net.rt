@@ -4,6 +4,7 @@ ghost use Rattle.lt_world.specs.Trace.{said, names, own, link_bound, Close as cl
 ghost use Rattle.lt_world.specs.Acts.{output_of, ending_of};
 ghost use Rattle.lt_world.specs.Answers.{event_tells, kind_of, IsFresh, IsNumbered, OnEvent, UsesEvent, read_act, write_act, dial_act, GotWithin, TookWithin, IsFreshDial, IsNumberedDial};
 ghost use Rattle.lt_world.specs.Causes.{Rose, GotCause, TookCause, DialCause};
+ghost use Rattle.script_net.specs.Arrivals.{has_arrived};
 ghost use Rattle.script_net.specs.Calls.{after, counted, Reads, Writes, Connects, Closes, Turns};
 ghost use Rattle.script_net.specs.Steps.{events_left};
 ghost use Rattle.script_net.specs.Playing.{unplayed, prepared, IsLater};
@@ -104,6 +105,13 @@ impl ScriptNet {
         ensures bound { result ≡ link_bound self.now.game.trace }
     {
         self.links.len()
+    }
+
+    /// Whether a link is a client's, which arrived.
+    pub fn has_arrived(&self, link: usize) -> bool
+        ensures arrived { result ≡ has_arrived (own link self.now.game.trace) }
+    {
+        self.links.has_arrived(link)
     }
 
     /// How a link was closed, if it was.
