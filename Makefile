@@ -25,7 +25,7 @@ demo:
 
 # `rt run` proves what was not proved before, and runs the program; what it says of the proof goes to standard error.
 build:
-	@cd crates/lighttpd && rt run -- replay -f data/hello.conf data/hello.script > /dev/null
+	@cd crates/lighttpd && rt run -- bench 1 > /dev/null
 	@echo '$(CURDIR)/$(PROGRAM)'
 
 # A document root begins with /, so examples/static.conf leaves it to the text that includes it.
@@ -44,8 +44,7 @@ install:
 # The gate runs these scripts where they lie, and takes no links: examples/ has copies.
 examples:
 	@cp crates/worked_rows/data/pipelining.* crates/worked_rows/data/chunked_body.* crates/worked_rows/data/slow_client.* \
-		crates/worked_rows/data/failing_client.* crates/lighttpd/data/hello.conf crates/lighttpd/data/hello.script examples
-	@cp crates/lighttpd/stdout examples/hello.report
+		crates/worked_rows/data/failing_client.* crates/worked_rows/data/failing_disk.* crates/worked_rows/data/hello.* examples
 
 prove:
 	@python3 bench/minutes.py record

@@ -9,7 +9,7 @@ use Rattle.clap.specs.declared.error.kind.ErrorKind.TheVariants.{OutOfMemory}
 use Rattle.clap.specs.Walk.{row_of}
 use Rattle.clap.specs.Facts.{Entry}
 use Rattle.clap.proofs.OnLiterals.{clap_on_literals}
-use Rattle.command_words.specs.Lines.{Line, nameless, options, replay, unless}
+use Rattle.command_words.specs.Lines.{Line, nameless, options, replay, bench, unless}
 
 pub options_free : is_simple_and_free options ≡ true
 unfolding clap_on_literals
@@ -26,6 +26,14 @@ replay_free = refl
 pub replay_simple : is_simple replay ≡ true
 unfolding clap_on_literals
 replay_simple = refl
+
+pub bench_free : is_simple_and_free bench ≡ true
+unfolding clap_on_literals
+bench_free = refl
+
+pub bench_simple : is_simple bench ≡ true
+unfolding clap_on_literals
+bench_simple = refl
 
 first_value_of : (xs : List (Bor (List ℕ))) → option_map (λ s. s.now) (slice_get xs 0) ≡ slice_get (map (λ (s : Bor (List ℕ)). s.now) xs) 0
 first_value_of [] = refl

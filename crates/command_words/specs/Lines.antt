@@ -1,8 +1,12 @@
 -- The lines of the program: what each of its commands takes, as `clap` says it.
-use Rattle.std.specs.Prelude.{ℕ, Bool, true, false, List, [], ◌∷◌, Option, Some, None, option_map, option_and_then, codes, bytes_eq, if◌then◌else◌}
+use Rattle.std.specs.Prelude.{ℕ, Bool, true, false, ◌&&◌, nat_le, List, [], ◌∷◌, Option, Some, None, option_map, option_and_then, codes, bytes_eq, if◌then◌else◌}
 use Rattle.std.specs.Option.{option_map_or}
 use Rattle.clap.specs.Words.{App, Rule, Text, Row, Kinds, new_app, new_rule, with_rule, fault_of, matches_of, first_of}
 use Rattle.clap.specs.declared.builder.ArgAction.TheVariants.{SetTrue, Set}
+use Rattle.lt_bytes.specs.declared.numbers.Number.{Number}
+use Rattle.lt_bytes.specs.declared.numbers.Number.TheVariants.{Value}
+use Rattle.lt_bytes.specs.Numbers.{number_of}
+use Rattle.command_words.specs.declared.line.TheConstants.{MAX_CLIENTS}
 
 pub data Line : Type 0 where
   -- clients are served by the configuration of this name
@@ -13,6 +17,8 @@ pub data Line : Type 0 where
   Print : Text → Line
   -- the script of the second name is played with the configuration of the first
   Replay : Text → Text → Line
+  -- so many clients of a script that is made for them are served
+  Bench : ℕ → Line
 
 -- `-f CONF`
 abbrev pub conf_rule : Rule
@@ -26,6 +32,10 @@ flag_rule id letter = record (new_rule id) { short = Some letter; action = Some 
 abbrev pub script_rule : Rule
 script_rule = record (new_rule (codes "script")) { required = true; action = Some Set }
 
+-- NUMBER
+abbrev pub number_rule : Rule
+number_rule = record (new_rule (codes "number")) { required = true; action = Some Set }
+
 -- a command whose first word is no program's name
 abbrev pub nameless : Text → App
 nameless name = let app = new_app name in record app { top = record app.top { no_binary_name = true } }
@@ -37,6 +47,10 @@ options = with_rule (with_rule (with_rule (with_rule (nameless (codes "lighttpd"
 -- `-f CONF` and SCRIPT
 abbrev pub replay : App
 replay = with_rule (with_rule (nameless (codes "replay")) conf_rule) script_rule
+
+-- NUMBER
+abbrev pub bench : App
+bench = with_rule (nameless (codes "bench")) number_rule
 
 -- the flag was given
 abbrev pub is_set : Text → List Row → Bool
@@ -55,6 +69,14 @@ option_line rows = option_and_then (λ conf. line_by (is_set (codes "test") rows
 abbrev pub replay_line : List Row → Option Line
 replay_line rows = option_and_then (λ conf. option_map (λ script. Replay conf script) (first_of (codes "script") rows)) (first_of (codes "conf") rows)
 
+-- how many clients digits say; leading zeros count for nothing
+abbrev pub clients_in : Number → Option ℕ
+clients_in (Value n) = if nat_le 1 n && nat_le n MAX_CLIENTS then Some n else None
+clients_in other = None
+
+abbrev pub bench_line : List Row → Option Line
+bench_line rows = option_and_then (λ digits. option_map (λ clients. Bench clients) (clients_in (number_of 10 digits))) (first_of (codes "number") rows)
+
 -- the line, where no word is a fault
 abbrev pub unless : Kinds → Option Line → Option Line
 unless [] line = line
@@ -67,7 +89,13 @@ option_words words = unless (fault_of options words) (option_line (matches_of op
 unfoldable pub replay_words : List Text → Option Line
 replay_words words = unless (fault_of replay words) (replay_line (matches_of replay words))
 
--- the line that words are, without the program's name; what follows `replay` is a command of its own
+unfoldable pub bench_words : List Text → Option Line
+bench_words words = unless (fault_of bench words) (bench_line (matches_of bench words))
+
+-- the line that words are, without the program's name; what follows `replay` or `bench` is a command of its own
 unfoldable pub line_of : List Text → Option Line
 line_of [] = option_words []
-line_of (word ∷ words) = if bytes_eq word (codes "replay") then replay_words words else option_words (word ∷ words)
+line_of (word ∷ words) =
+    if bytes_eq word (codes "replay") then replay_words words
+    else if bytes_eq word (codes "bench") then bench_words words
+    else option_words (word ∷ words)

@@ -1,7 +1,7 @@
 //! The commands of the program, as `clap` has them.
 ghost use Rattle.std.specs.Prelude.{◌≡◌, IfOk, codes, false};
 ghost use Rattle.clap.specs.Words.{app_of, rule_of};
-ghost use Rattle.command_words.specs.Lines.{options, replay, conf_rule, script_rule, flag_rule};
+ghost use Rattle.command_words.specs.Lines.{options, replay, bench, conf_rule, script_rule, number_rule, flag_rule};
 
 use clap::{Arg, ArgAction, Command};
 use std::alloc::{AllocError, Global};
@@ -39,6 +39,19 @@ pub fn replay<'a>(alloc: Global) -> Result<Command<'a>, AllocError>
         .no_binary_name(true)
         .arg(conf(alloc))?
         .arg(script)?;
+    Ok(made)
+}
+
+/// `NUMBER`: what stands behind `bench`.
+pub fn bench<'a>(alloc: Global) -> Result<Command<'a>, AllocError>
+    ensures { IfOk result (λ c. app_of c ≡ bench) }
+{
+    let number = Arg::new(alloc, "number")
+        .required(true)
+        .action(ArgAction::Set);
+    let made = Command::new(alloc, "bench")
+        .no_binary_name(true)
+        .arg(number)?;
     Ok(made)
 }
 

@@ -5,12 +5,15 @@ const HELP: &str = "
   lighttpd [-D] -t -f CONF            check a configuration
   lighttpd [-D] -p -f CONF            print a configuration in its normal form
   lighttpd replay -f CONF SCRIPT      serve the clients of a script, and report what they got
+  lighttpd bench NUMBER               serve so many clients, 1 to 10000, of a script that is made for them, and sum up what
+                                      they got
 
 For example:
   lighttpd -t -f lighttpd.conf
   lighttpd -D -f lighttpd.conf
   lighttpd -p -f lighttpd.conf
-  lighttpd replay -f hello.conf hello.script";
+  lighttpd replay -f hello.conf hello.script
+  lighttpd bench 1000";
 
 /// Whether a word asks for help.
 pub fn asks_for_help(words: &[String]) -> bool {

@@ -1,5 +1,5 @@
-//! The program: `-f CONF` serves clients over the sockets of the system, `replay` serves those of a script, `-t` checks a
-//! configuration, `-p` prints one.
+//! The program: `-f CONF` serves clients over the sockets of the system, `replay` serves those of a script, `bench` those
+//! of a script that is made for them, `-t` checks a configuration, `-p` prints one.
 //! What a call does is `lt_commands` and `lt_serve`; named texts and files are `files_disk`'s, sockets `mio_net`'s. Here is
 //! the edge of the process: its words, standard output (`out_sink`), and its end (`ending`), the status's text on standard
 //! error and its number; at a terminal people are told of it in words (`explaining`).

@@ -52,15 +52,11 @@ module _ (conf script : List ℕ) (library : Library) (before mid after : List F
   script_asks status.Done accepted says asks = absurd says
   script_asks status.SinkFault accepted says asks = absurd says
 
-  -- both were accepted, and then memory was wanted
-  pub loaded_asks : AsksConf conf library before mid → AsksFor script fetch.Text mid after → ReplayAsks status.NoMemory conf script library before after
-  loaded_asks accepted asked = inr (inr (both_asked fetch.Text accepted asked))
-
   -- both were accepted
   pub play_asks : (answer : Status) (last : NextKind) → PlaySays answer last → AsksConf conf library before mid → AsksFor script fetch.Text mid after → ReplayAsks answer conf script library before after
   play_asks status.Done last ends accepted asked = both_asked fetch.Text accepted asked
   play_asks status.SinkFault last ends accepted asked = both_asked fetch.Text accepted asked
-  play_asks status.NoMemory last ends accepted asked = loaded_asks accepted asked
+  play_asks status.NoMemory last ends accepted asked = inr (inr (both_asked fetch.Text accepted asked))
   play_asks (status.Conf fault) last ends accepted asked = absurd ends
   play_asks status.Usage last ends accepted asked = absurd ends
   play_asks status.ListenFault last ends accepted asked = absurd ends

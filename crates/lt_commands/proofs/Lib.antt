@@ -7,3 +7,4 @@ mod PlannedLemmas
 mod CalmLemmas
 mod AskingLemmas
 mod ServingLemmas
+mod BenchLemmas

@@ -1,14 +1,16 @@
 -- What a run over a script means for the script.
-use Rattle.std.proofs.Common.{◌≡◌, ℕ, List, [], sym, ap, ◌∙◌, inl, inr}
+use Rattle.std.proofs.Common.{◌≡◌, ℕ, List, [], refl, sym, ap, ◌∙◌, inl, inr}
+use Rattle.lt_world.specs.Causes.{Rose}
 use Rattle.lt_world.specs.declared.net.NextKind.{NextKind}
 use Rattle.lt_commands.specs.declared.status.Status.{Status}
 use Rattle.lt_commands.specs.declared.status.Status.TheVariants as status
 use Rattle.std.specs.Prelude.{Err}
 use Rattle.lt_world.specs.TextAnswers.{Library}
 use Rattle.conf_eval.specs.declared.fault.Loaded.{Loaded}
+use Rattle.lt_commands.specs.Benching.{bench_name, bench_texts}
 use Rattle.lt_commands.specs.Loading.{HasSomeConf, IsOnlyConf, LoadSays}
 use Rattle.lt_commands.specs.Reading.{IsOnly, ScriptSays}
-use Rattle.lt_commands.specs.Offline.{PlaySays, ReplaySays, CheckSays, HasSomeScript, IsComplete, IsCompleteLoad}
+use Rattle.lt_commands.specs.Offline.{PlaySays, BenchSays, FaultsSay, ReplaySays, CheckSays, MemorySays, HasSomeScript, IsComplete, IsCompleteLoad, IsOfLine, IsRefusal}
 use Rattle.script_net.specs.Steps.{events_left}
 use Rattle.lt_script.specs.declared.script.Script.{Script}
 use Rattle.script_net.specs.Playing.{Playing, prepared, IsLater}
@@ -26,7 +28,7 @@ plays_all said a b begins later none =
       rest = ap (λ (g : Game). (played later.calls g).left) (sym start_is) ∙ ap (λ (g : Game). g.left) (sym later.plays) ∙ none_left b.game.left none;
     }
 
--- a run that was begun answers as the texts want it
+-- the play of a script answers as the texts want it
 pub play_says : (answer : Status) (last : NextKind) (library : Library) (conf script : List ℕ) → PlaySays answer last → HasSomeConf library conf → HasSomeScript (library script) → ReplaySays answer library conf script
 play_says status.Done last library conf script ends loaded said = (loaded, said)
 play_says status.SinkFault last library conf script ends loaded said = (loaded, said)
@@ -128,3 +130,67 @@ is_complete value status.ListenFault only = absurd only
 is_complete value status.WaitFault only = absurd only
 is_complete value (status.Script line) only = absurd only
 is_complete value (status.Missing number) only = absurd only
+
+-- of a play memory is wanted before the first event, or where the net wants it
+pub play_memory : (answer : Status) (last : NextKind) → PlaySays answer last → MemorySays answer last
+play_memory status.Done last ends = tt
+play_memory status.NoMemory last ends = ends
+play_memory status.SinkFault last ends = tt
+play_memory status.TextFault last ends = tt
+play_memory (status.Conf fault) last ends = tt
+play_memory status.Usage last ends = tt
+play_memory status.ListenFault last ends = tt
+play_memory status.WaitFault last ends = tt
+play_memory (status.Script line) last ends = tt
+play_memory (status.Missing number) last ends = tt
+
+-- a benchmark run whose configuration was loaded
+pub bench_says : (answer : Status) (last : NextKind) → PlaySays answer last → HasSomeConf bench_texts bench_name → BenchSays answer
+bench_says status.Done last ends loaded = loaded
+bench_says status.NoMemory last ends loaded = tt
+bench_says status.SinkFault last ends loaded = loaded
+bench_says status.TextFault last ends loaded = absurd ends
+bench_says (status.Conf fault) last ends loaded = absurd ends
+bench_says status.Usage last ends loaded = absurd ends
+bench_says status.ListenFault last ends loaded = absurd ends
+bench_says status.WaitFault last ends loaded = absurd ends
+bench_says (status.Script line) last ends loaded = absurd ends
+bench_says (status.Missing number) last ends loaded = absurd ends
+
+-- a play is of a line, and refuses nothing
+pub play_line : (answer : Status) (last : NextKind) → PlaySays answer last → IsOfLine answer
+play_line status.Done last ends = tt
+play_line status.NoMemory last ends = tt
+play_line status.SinkFault last ends = tt
+play_line status.TextFault last ends = tt
+play_line (status.Conf fault) last ends = tt
+play_line status.Usage last ends = absurd ends
+play_line status.ListenFault last ends = tt
+play_line status.WaitFault last ends = tt
+play_line (status.Script line) last ends = tt
+play_line (status.Missing number) last ends = tt
+
+pub play_runs : (answer : Status) (last : NextKind) → PlaySays answer last → IsRefusal answer → ⊥
+play_runs status.Done last ends is = is
+play_runs status.NoMemory last ends is = is
+play_runs status.SinkFault last ends is = is
+play_runs status.TextFault last ends is = ends
+play_runs (status.Conf fault) last ends is = ends
+play_runs status.Usage last ends is = ends
+play_runs status.ListenFault last ends is = is
+play_runs status.WaitFault last ends is = is
+play_runs (status.Script line) last ends is = ends
+play_runs (status.Missing number) last ends is = ends
+
+-- its only fault is the sink's
+pub play_faults : (answer : Status) (last : NextKind) (texts_before texts_after before after : ℕ) → PlaySays answer last → (answer ≡ status.SinkFault → Rose before after) → FaultsSay answer texts_before texts_after before after
+play_faults status.Done last texts_before texts_after before after ends cause = tt
+play_faults status.NoMemory last texts_before texts_after before after ends cause = tt
+play_faults status.SinkFault last texts_before texts_after before after ends cause = cause refl
+play_faults status.TextFault last texts_before texts_after before after ends cause = absurd ends
+play_faults (status.Conf fault) last texts_before texts_after before after ends cause = absurd ends
+play_faults status.Usage last texts_before texts_after before after ends cause = tt
+play_faults status.ListenFault last texts_before texts_after before after ends cause = tt
+play_faults status.WaitFault last texts_before texts_after before after ends cause = tt
+play_faults (status.Script line) last texts_before texts_after before after ends cause = tt
+play_faults (status.Missing number) last texts_before texts_after before after ends cause = tt

@@ -26,7 +26,7 @@ no_script = record { files = []; faults = []; steps = [] }
 pub nothing_played : (trace : List Entry) → trace ≡ [] → Plays [] trace []
 nothing_played trace untold = record { calls = []; told = sym untold; rest = refl }
 
-none_closed : AllEndCalmly []
+pub none_closed : AllEndCalmly []
 none_closed link e is = absurd (cc is)
 
 -- where nothing was run, any configuration and any script will do, if none was to be played

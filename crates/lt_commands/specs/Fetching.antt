@@ -7,7 +7,7 @@ use Rattle.lt_world.specs.declared.texts.FetchKind.TheVariants as fetch
 use Rattle.conf_eval.specs.declared.fault.Loaded.{Loaded}
 use Rattle.lt_commands.specs.declared.status.Status.{Status}
 use Rattle.lt_commands.specs.declared.status.Status.TheVariants as status
-use Rattle.lt_commands.specs.Words.{Line, Replay, Check, Print}
+use Rattle.lt_commands.specs.Words.{Line, Replay, Check, Print, Bench}
 use Rattle.lt_commands.specs.Loading.{LoadsAs}
 use Rattle.lt_commands.specs.Reading.{AsksFor}
 
@@ -58,7 +58,9 @@ PrintAsks status.SinkFault conf before after = AsksFor conf fetch.Text before af
 PrintAsks status.NoMemory conf before after = (after ≡ before) ⊎ AsksFor conf fetch.Text before after
 PrintAsks other conf before after = ⊥
 
+-- a benchmark run asks for no text
 abbrev pub LineAsks : Status → Line → Library → List Fetch → List Fetch → Type 0
 LineAsks status (Replay conf script) library before after = ReplayAsks status conf script library before after
 LineAsks status (Check conf) library before after = CheckAsks status conf library before after
 LineAsks status (Print conf) library before after = PrintAsks status conf before after
+LineAsks status (Bench clients) library before after = after ≡ before

@@ -1,3 +1,4 @@
+pub mod Benching
 pub mod Calls
 pub mod Endings
 pub mod Exits
@@ -5,6 +6,7 @@ pub mod Explaining
 pub mod Fetching
 pub mod Loading
 pub mod Offline
+pub mod Outputs
 pub mod Planned
 pub mod Printing
 pub mod Reading

@@ -11,11 +11,12 @@ use Rattle.conf_eval.specs.declared.fault.ConfKind.TheVariants as cause
 use Rattle.conf_eval.specs.declared.fault.Loaded.{Loaded}
 use Rattle.lt_commands.specs.declared.status.Status.{Status}
 use Rattle.lt_commands.specs.declared.status.Status.TheVariants as status
-use Rattle.lt_commands.specs.Words.{Line, Replay, Check, Print, SpellsLine}
+use Rattle.lt_commands.specs.Words.{Line, Replay, Check, Print, Bench, SpellsLine}
 use Rattle.lt_commands.specs.Loading.{HasConf, HasSomeConf, HasFault}
 use Rattle.lt_commands.specs.Reading.{HasScript, IsWrongAt}
 use Rattle.lt_commands.specs.Printing.{HasTree, IsFault}
 use Rattle.lt_commands.specs.Warnings.{checked}
+use Rattle.lt_commands.specs.Benching.{bench_name, bench_texts}
 
 -- Usage comes exactly where the words are no line of the call, unless there is no memory to read them
 abbrev pub WordsSay : Status → List (List ℕ) → Type 0
@@ -69,10 +70,18 @@ PrintSays status.TextFault conf = Unit {0}
 PrintSays status.NoMemory conf = Unit {0}
 PrintSays other conf = ⊥
 
+-- a benchmark run's status: its configuration is one, and no text of the caller's is refused
+abbrev pub BenchSays : Status → Type 0
+BenchSays status.Done = HasSomeConf bench_texts bench_name
+BenchSays status.SinkFault = HasSomeConf bench_texts bench_name
+BenchSays status.NoMemory = Unit {0}
+BenchSays other = ⊥
+
 abbrev pub LineSays : Status → Line → Library → Type 0
 LineSays status (Replay conf script) library = ReplaySays status library conf script
 LineSays status (Check conf) library = CheckSays status library conf
 LineSays status (Print conf) library = PrintSays status (library conf)
+LineSays status (Bench clients) library = BenchSays status
 
 -- a call that ends so never asked its net and its files for anything
 abbrev pub IsRefusal : Status → Type 0
@@ -100,15 +109,18 @@ abbrev pub Completes : Status → Line → Library → Type 0
 Completes status (Replay conf script) library = HasSomeConf library conf → HasSomeScript (library script) → IsCompleteLoad status
 Completes status (Check conf) library = HasSomeConf library conf → IsCompleteLoad status
 Completes status (Print conf) library = HasSomeTree (library conf) → IsComplete status
+Completes status (Bench clients) library = BenchSays status
 
 -- a line that asks neither the net nor the files for anything
 abbrev pub IsQuiet : Line → Type 0
 IsQuiet (Replay conf script) = ⊥
+IsQuiet (Bench clients) = ⊥
 IsQuiet other = Unit {0}
 
 -- what a line puts out of its texts
 abbrev pub PutsOut : Line → Library → List ℕ → Type 0
 PutsOut (Replay conf script) library output = ⊥
+PutsOut (Bench clients) library output = ⊥
 PutsOut (Check conf) library output = (loaded : Loaded) × HasConf library conf loaded × (output ≡ checked loaded)
 PutsOut (Print conf) library output = (tree : Tree) × HasTree (library conf) tree × (output ≡ printed tree)
 
@@ -130,9 +142,9 @@ abbrev pub MemorySays : Status → NextKind → Type 0
 MemorySays status.NoMemory last = (last ≡ kind.NoneYet) ⊎ (last ≡ kind.NoMemory)
 MemorySays other last = Unit {0}
 
--- how a run that was begun ends
+-- how the play of a script ends
 abbrev pub PlaySays : Status → NextKind → Type 0
 PlaySays status.Done last = last ≡ kind.Over
 PlaySays status.SinkFault last = last ≡ kind.Over
-PlaySays status.NoMemory last = last ≡ kind.NoMemory
+PlaySays status.NoMemory last = (last ≡ kind.NoneYet) ⊎ (last ≡ kind.NoMemory)
 PlaySays other last = ⊥

@@ -1,6 +1,6 @@
 -- The lines that the program does without sockets (`command_words`, `Line`).
 use Rattle.std.specs.Prelude.{◌≡◌, ℕ, List, Some}
-use Rattle.command_words.specs.Lines.{line_of, Line as WordsLine, Replay as replay, Check as check, Print as print}
+use Rattle.command_words.specs.Lines.{line_of, Line as WordsLine, Replay as replay, Check as check, Print as print, Bench as bench}
 use Rattle.lt_commands.specs.declared.status.Status.{Status}
 use Rattle.lt_commands.specs.declared.status.Status.TheVariants as status
 
@@ -11,12 +11,15 @@ pub data Line : Type 0 where
   Check : List ℕ → Line
   -- prints the configuration of this name
   Print : List ℕ → Line
+  -- serves so many clients of a script that is generated for them
+  Bench : ℕ → Line
 
 -- among all lines of the program
 abbrev pub as_words : Line → WordsLine
 as_words (Replay conf script) = replay conf script
 as_words (Check conf) = check conf
 as_words (Print conf) = print conf
+as_words (Bench clients) = bench clients
 
 -- the words are this line, each as its bytes
 abbrev pub SpellsLine : List (List ℕ) → Line → Type 0

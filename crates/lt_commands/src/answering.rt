@@ -1,6 +1,6 @@
 //! What the process answers to its words: a call with a net and files of its own.
 ghost use Rattle.std.specs.Prelude.{◌≡◌, ℕ, List, map, string_bytes};
-ghost use Rattle.lt_commands.specs.Words.{Line, SpellsLine};
+ghost use Rattle.lt_commands.specs.Words.{Line, SpellsLine, Bench as bench_line};
 ghost use Rattle.lt_commands.specs.Offline.{Completes, FaultsSay, LineSays, PutsOut, SinkSays, WordsSay};
 ghost use Rattle.lt_commands.specs.Fetching.{LineAsks};
 ghost use Rattle.lt_commands.specs.Serving.{Ran};
@@ -23,10 +23,11 @@ pub fn answer<X: Texts, S: Sink>(
     ensures asks { X.tells → (line : Line) → SpellsLine (map string_bytes words.now) line → LineAsks result line (X.texts texts.old) (X.calls texts.old) (X.calls texts.new) }
     ensures faults { FaultsSay result (X.faults texts.old) (X.faults texts.new) (S.faults sink.old) (S.faults sink.new) }
     ensures complete { X.tells → (line : Line) → SpellsLine (map string_bytes words.now) line → Completes result line (X.texts texts.old) }
-    // The call made a run of which all is promised that `offline` promises, and the sink got its report.
+    // The call made a run of which all is promised that `offline` promises, and the sink got its report, or its summary.
     ensures ran { Ran X.tells S.tells (map string_bytes words.now) (X.texts texts.old) result (S.bytes sink.old) (S.bytes sink.new) }
     ensures prints { S.tells → X.tells → (line : Line) (output : List ℕ) → SpellsLine (map string_bytes words.now) line
         → PutsOut line (X.texts texts.old) output → SinkSays result output (S.bytes sink.old) (S.bytes sink.new) }
+    ensures unread { (clients : ℕ) → SpellsLine (map string_bytes words.now) (bench_line clients) → texts.new ≡ texts.old }
     ensures usage { result ≡ Status.Usage → (texts.new ≡ texts.old) × (sink.new ≡ sink.old) }
 {
     let mut net = ScriptNet::new(alloc);

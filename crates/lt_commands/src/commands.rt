@@ -1,53 +1,39 @@
-//! The work that needs no sockets: a replay, the check of a configuration, and its printed form.
-ghost use Rattle.std.specs.Prelude.{◌≡◌, ◌≤◌, ◌++◌, ℕ, List, [], None, map, string_bytes, OnOk};
-ghost use Rattle.lt_world.specs.Disk.{Disk};
-ghost use Rattle.lt_world.specs.Memory.{no_files, tree_of};
-ghost use Rattle.lt_world.specs.Causes.{Rose};
-ghost use Rattle.lt_world.specs.FileRuns.{Leads};
-ghost use Rattle.script_net.specs.Loads.{planted};
-ghost use Rattle.script_net.specs.Playing.{unplayed, prepared, IsLater};
-ghost use Rattle.script_net.specs.Steps.{events_left};
-ghost use Rattle.script_net.specs.Plays.{Plays};
-ghost use Rattle.script_net.specs.Failing.{IsCalm};
+//! The work that needs no sockets: a replay, the check of a configuration, its printed form, and a benchmark run.
+ghost use Rattle.std.specs.Prelude.{◌≡◌, ℕ, List, [], map, string_bytes};
+ghost use Rattle.lt_world.specs.Memory.{no_files};
+ghost use Rattle.script_net.specs.Playing.{unplayed};
 ghost use Rattle.script_net.specs.Reports.{report_of};
-ghost use Rattle.lt_script.specs.declared.script.Script.{Script};
-ghost use Rattle.lt_script.specs.Texts.{Spells};
+ghost use Rattle.script_gen.specs.Totals.{summary_of};
 ghost use Rattle.conf_parse.specs.declared.tree.Tree.{Tree};
 ghost use Rattle.conf_parse.specs.Print.{printed};
-ghost use Rattle.server_model.specs.Files.{IsTable, Backs};
-ghost use Rattle.server_model.specs.Serves.{Serves};
-ghost use Rattle.server_core.specs.Within.{serving_at};
-ghost use Rattle.lt_commands.specs.Planned.{ArePlanned};
-ghost use Rattle.lt_commands.specs.Runs.{AreFresh, FinishFits, Served, asked_of};
-ghost use Rattle.lt_commands.specs.Endings.{AllEndCalmly};
-ghost use Rattle.lt_commands.specs.Words.{Line, SpellsLine, Replay as replay_line};
+ghost use Rattle.lt_commands.specs.Runs.{asked_of};
+ghost use Rattle.lt_commands.specs.Words.{Line, SpellsLine, Replay as replay_line, Bench as bench_line};
 ghost use Rattle.lt_commands.specs.Loading.{HasConf, HasSomeConf};
 ghost use Rattle.lt_commands.specs.Printing.{HasTree};
-ghost use Rattle.lt_commands.specs.Offline.{CheckSays, Completes, FaultsSay, HasSomeScript, HasSomeTree, IsComplete, IsCompleteLoad, IsOfLine, IsQuiet, IsRefusal, LineSays, MemorySays, PlaySays, PrintSays, PutsOut, ReplaySays, SinkSays, WordsSay};
+ghost use Rattle.lt_commands.specs.Offline.{CheckSays, Completes, FaultsSay, HasSomeScript, HasSomeTree, IsComplete, IsCompleteLoad, IsOfLine, IsQuiet, IsRefusal, LineSays, MemorySays, PrintSays, PutsOut, ReplaySays, SinkSays, WordsSay};
 ghost use Rattle.lt_commands.specs.Fetching.{CheckAsks, LineAsks, PrintAsks, ReplayAsks};
-ghost use Rattle.lt_commands.specs.Serving.{ServesSome, ServesSpelled};
+ghost use Rattle.lt_commands.specs.Serving.{ServesBench, ServesSome, ServesSpelled};
 ghost use Rattle.lt_commands.specs.Warnings.{checked};
 ghost use Rattle.conf_eval.specs.declared.fault.Loaded.{Loaded};
 
+use crate::benching::bench;
 use crate::loading::load_conf;
+use crate::playing::{Output, play};
 use crate::printing::read_tree;
 use crate::reading::read_script;
-use crate::run::{Finish, run};
 use crate::status::Status;
 use crate::warnings::load_warned;
 use crate::words::{Call, read_words};
 use conf_parse::print;
-use lt_bytes::NoMemory;
-use lt_script::Script;
 use lt_world::{MemFiles, Sink, Texts};
-use script_net::{ScriptNet, plan_files, report, write_all};
-use server_core::Server;
+use script_net::{ScriptNet, write_all};
 use std::alloc::Global;
 
 /// Does what the words ask for, if it needs no sockets, and answers how it ended.
 ///
 /// `replay -f CONF SCRIPT` serves the clients of a script and writes the report; `[-D] -t -f CONF` checks a configuration
-/// and writes its warnings; `[-D] -p -f CONF` writes its printed form. What cannot be done is the first of: the words, the
+/// and writes its warnings; `[-D] -p -f CONF` writes its printed form; `bench NUMBER` serves so many clients of a script that
+/// is generated for them, and writes the summary. What cannot be done is the first of: the words, the
 /// configuration, the script, the output.
 pub fn offline<X: Texts, S: Sink>(
     alloc: Global,
@@ -84,6 +70,13 @@ pub fn offline<X: Texts, S: Sink>(
     ensures report { S.tells → (conf script : List ℕ) → SpellsLine (map string_bytes words.now) (replay_line conf script)
         → SinkSays result (report_of net.new.game.trace) (S.bytes sink.old) (S.bytes sink.new) }
 
+    // A benchmark run serves the clients of the script that is generated for so many, and puts out the summary of what
+    // the net told. It asks for no text.
+    ensures benched { (clients : ℕ) → SpellsLine (map string_bytes words.now) (bench_line clients) → ServesBench clients result (asked_of files.new) net.new.game.trace }
+    ensures summed { S.tells → (clients : ℕ) → SpellsLine (map string_bytes words.now) (bench_line clients)
+        → SinkSays result (summary_of net.new.game.trace) (S.bytes sink.old) (S.bytes sink.new) }
+    ensures unread { (clients : ℕ) → SpellsLine (map string_bytes words.now) (bench_line clients) → texts.new ≡ texts.old }
+
     // A check puts out the warnings, a print the printed form.
     ensures prints { S.tells → X.tells → (line : Line) (output : List ℕ) → SpellsLine (map string_bytes words.now) line
         → PutsOut line (X.texts texts.old) output → SinkSays result output (S.bytes sink.old) (S.bytes sink.new) }
@@ -98,6 +91,7 @@ pub fn offline<X: Texts, S: Sink>(
         }
         Ok(Call::Check { conf }) => check_conf(alloc, conf, texts, sink),
         Ok(Call::Print { conf }) => print_conf(alloc, conf, texts, sink),
+        Ok(Call::Bench { clients }) => bench(alloc, clients, net, files, sink),
     }
 }
 
@@ -131,77 +125,7 @@ fn replay<X: Texts, S: Sink>(
         Ok(script) => script,
         Err(status) => return status,
     };
-    if begin(&script, net, files).is_err() {
-        return Status::NoMemory;
-    }
-    match Server::new(alloc, &loaded.config) {
-        Ok(server) => play(server, net, files, sink),
-        Err(_) => Status::NoMemory,
-    }
-}
-
-// Puts a script where it plays: its steps into the net, its files into memory, with the faults that it plans for them.
-fn begin(script: &Script, net: &mut ScriptNet, files: &mut MemFiles) -> Result<(), NoMemory>
-    requires net { net.old ≡ unplayed [] }
-    requires files { files.old ≡ no_files }
-    requires spelled { (bytes : List ℕ) × Spells bytes script.now }
-    ensures plays { OnOk result (net.new ≡ prepared script.now) }
-    ensures untold { net.new.game.trace ≡ [] }
-    ensures unasked { net.new.last ≡ net.old.last }
-    ensures tree { OnOk result (tree_of files.new ≡ planted script.now.files (tree_of no_files)) }
-    ensures planned { OnOk result (ArePlanned script.now.faults files.new) }
-    ensures fresh { AreFresh files.new }
-{
-    net.load(script, files)?;
-    plan_files(script.faults.as_slice(), files)
-}
-
-// Serves the clients of a script that was loaded, and reports what they took.
-fn play<S: Sink>(
-    server: Server<'_>,
-    net: &mut ScriptNet,
-    files: &mut MemFiles,
-    sink: &mut S,
-) -> Status
-    requires fresh { AreFresh files.old }
-    requires begins { net.old.game.trace ≡ [] }
-    requires table { (links : ℕ) → IsTable links server.table }
-    requires backs { (disk : Disk) → Backs disk.table server.table }
-    requires serves { (disk : Disk) → disk.calls ≡ [] → ((file : ℕ) → disk.table file ≡ None) → Serves disk (serving_at server) [] }
-    ensures serves { Served server.entry.site (tree_of files.old) (asked_of files.new) net.new.game.trace }
-    ensures ends { PlaySays result net.new.last }
-    ensures leads { Leads files.old files.new }
-    ensures calm { (said : Script) → net.old ≡ prepared said → IsCalm said.steps → files.new.faults ≡ 0 → AllEndCalmly net.new.game.trace }
-    ensures plays { (said : Script) → net.old ≡ prepared said → result ≡ Status.Done → Plays said.steps net.new.game.trace [] }
-    ensures report { S.tells → SinkSays result (report_of net.new.game.trace) (S.bytes sink.old) (S.bytes sink.new) }
-    ensures cause { result ≡ Status.SinkFault → Rose (S.faults sink.old) (S.faults sink.new) }
-{
-    match serve(server, net, files) {
-        Finish::NoMemory => Status::NoMemory,
-        Finish::Over => match report(net, sink) {
-            Ok(()) => Status::Done,
-            Err(_) => Status::SinkFault,
-        },
-    }
-}
-
-// Takes turns until the net is over, and ends the server.
-fn serve(server: Server<'_>, net: &mut ScriptNet, files: &mut MemFiles) -> Finish
-    requires fresh { AreFresh files.old }
-    requires begins { net.old.game.trace ≡ [] }
-    requires table { (links : ℕ) → IsTable links server.table }
-    requires backs { (disk : Disk) → Backs disk.table server.table }
-    requires serves { (disk : Disk) → disk.calls ≡ [] → ((file : ℕ) → disk.table file ≡ None) → Serves disk (serving_at server) [] }
-    ensures serves { Served server.entry.site (tree_of files.old) (asked_of files.new) net.new.game.trace }
-    ensures last { FinishFits result net.new.last }
-    ensures leads { Leads files.old files.new }
-    ensures over { result ≡ Finish.Over → events_left net.new.game.left ≡ 0 }
-    ensures later { IsLater net.old net.new }
-{
-    let mut server = server;
-    let finish = run(&mut server, net, files);
-    server.close(files);
-    finish
+    play(alloc, &loaded, &script, Output::Report, net, files, sink)
 }
 
 fn check_conf<X: Texts, S: Sink>(alloc: Global, conf: &str, texts: &mut X, sink: &mut S) -> Status

@@ -82,6 +82,7 @@ fn conf_of<'a>(alloc: Global, words: &'a [String]) -> Result<&'a str, Status>
         Ok(Line::Check { .. }) => Err(Status::Usage),
         Ok(Line::Print { .. }) => Err(Status::Usage),
         Ok(Line::Replay { .. }) => Err(Status::Usage),
+        Ok(Line::Bench { .. }) => Err(Status::Usage),
         Err(WordsError::Usage) => Err(Status::Usage),
         Err(WordsError::NoMemory) => Err(Status::NoMemory),
     }

@@ -11,7 +11,7 @@ returns-in-Some-clause-line c =
     let parse = c.in-Ok-try_get_matches_from.ensures in
     let words = map string_bytes c.args.words.now in
     taken options (app_of c.in-Ok.command) words (rows_of (found_of c.in-Ok-try_get_matches_from.matches)) option_line c.in-Ok.ensures options_free options_simple parse.kinds (λ s. (parse.matches s).0)
-    ∙ sym c.in-Some.ensures
+    ∙ sym c.in-Some.ensures.line
 
 pub returns-in-Ok-try_get_matches_from-clause-usage : goal.returns-in-Ok-try_get_matches_from-clause-usage
 unfolding option_words
@@ -19,7 +19,7 @@ returns-in-Ok-try_get_matches_from-clause-usage c = λ _.
     let parse = c.in-Ok-try_get_matches_from.ensures in
     let words = map string_bytes c.args.words.now in
     taken options (app_of c.in-Ok.command) words (rows_of (found_of c.in-Ok-try_get_matches_from.matches)) option_line c.in-Ok.ensures options_free options_simple parse.kinds (λ s. (parse.matches s).0)
-    ∙ sym c.in-None.ensures
+    ∙ sym c.in-None.ensures.line
 
 pub returns-clause-usage : goal.returns-clause-usage
 unfolding option_words

@@ -8,4 +8,6 @@ returns-clause-ran g c = record {
   some = c.offline.ensures.serves;
   spelled = c.offline.ensures.spelled;
   reported = c.offline.ensures.report;
+  benched = c.offline.ensures.benched;
+  summed = c.offline.ensures.summed;
 }

@@ -9,7 +9,7 @@ use Rattle.server_model.specs.Serves.{Serves}
 use Rattle.server_core.specs.Within.{serving_at}
 use Rattle.lt_commands.proofs.RunLemmas.{serves_all, all_freed-calls}
 use Rattle.lt_commands.specs.Runs.{Asked, asked_of}
-use Rattle.lt_commands.proofs.commands.serve.Goals as goal
+use Rattle.lt_commands.proofs.playing.serve.Goals as goal
 
 pub run-finish-requires-clause-table : goal.run-finish-requires-clause-table
 run-finish-requires-clause-table c = c.requires.table _

@@ -2,7 +2,7 @@ use Rattle.lt_commands.proofs.OfflineLemmas.{plays_all}
 use Rattle.lt_world.specs.Memory.{tree_of}
 use Rattle.lt_commands.proofs.CalmLemmas.{calm_run}
 use Rattle.lt_commands.specs.Runs.{asked_of}
-use Rattle.lt_commands.proofs.commands.play.Goals as goal
+use Rattle.lt_commands.proofs.playing.play_begun.Goals as goal
 
 pub returns-in-Ok-clause-plays : goal.returns-in-Ok-clause-plays
 returns-in-Ok-clause-plays g c said begins done = plays_all said c.args.net.now c.serve.new.net begins c.serve.ensures.later (c.serve.ensures.over c.in-Over.is)
