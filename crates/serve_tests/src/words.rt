@@ -14,6 +14,7 @@ fn told(alloc: Global, text: &str) -> Result<String, Fail> {
         Ok(Line::Check { conf }) => format!(in alloc; "check {conf}")?,
         Ok(Line::Print { conf }) => format!(in alloc; "print {conf}")?,
         Ok(Line::Replay { conf, script }) => format!(in alloc; "replay {conf} {script}")?,
+        Ok(Line::Bench { clients }) => format!(in alloc; "bench {clients}")?,
         Err(WordsError::Usage) => String::from_str(alloc, "usage")?,
         Err(WordsError::NoMemory) => String::from_str(alloc, "no memory")?,
     };
@@ -32,6 +33,7 @@ fn options_stand_in_any_order(rt: HostRuntime) -> Result<(), Fail> {
     assert_eq!(rt; told(alloc, "-f K -D -p")?.as_str(), "print K");
     assert_eq!(rt; told(alloc, "replay -f K S")?.as_str(), "replay K S");
     assert_eq!(rt; told(alloc, "replay S -f K")?.as_str(), "replay K S");
+    assert_eq!(rt; told(alloc, "bench 10000")?.as_str(), "bench 10000");
     Ok(())
 }
 

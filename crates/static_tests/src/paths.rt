@@ -2,9 +2,7 @@
 use conf_value::{Pair, Value};
 use lt_bytes::{List, NoMemory, Text};
 use lt_world::{FileCall, Files, MemFiles, Owner};
-use static_files::{
-    Place, TypeIndex, TypeTables, find_file, is_excluded, location, map_path, mime,
-};
+use static_files::{Place, TypeIndex, find_file, is_excluded, location, map_path, mime};
 use std::alloc::Global;
 use std::test::Fail;
 
@@ -84,27 +82,6 @@ fn a_media_type_is_that_of_the_longest_end(rt: HostRuntime) -> Result<(), Fail> 
     assert_eq!(rt; index.mime(b"/d/Makefile"), b"c".as_slice());
     assert_eq!(rt; index.mime(b"/.html"), b"d".as_slice());
     assert_eq!(rt; index.mime(b"/html"), b"f".as_slice());
-    Ok(())
-}
-
-#[test]
-fn a_media_type_is_that_of_the_list_that_counts(rt: HostRuntime) -> Result<(), Fail> {
-    let types = [pair(rt.alloc(), b".gz", b"a")?];
-    let others = [pair(rt.alloc(), b".gz", b"b")?];
-    let mut tables = TypeTables::new(rt.alloc());
-    tables.add(rt.alloc(), &types)?;
-    tables.add(rt.alloc(), &[])?;
-    tables.add(rt.alloc(), &others)?;
-    assert_eq!(rt; tables.mime(0, b"/x.gz"), b"a".as_slice());
-    assert_eq!(rt;
-        tables.mime(1, b"/x.gz"),
-        b"application/octet-stream".as_slice()
-    );
-    assert_eq!(rt; tables.mime(2, b"/x.gz"), b"b".as_slice());
-    assert_eq!(rt;
-        tables.mime(3, b"/x.gz"),
-        b"application/octet-stream".as_slice()
-    );
     Ok(())
 }
 
