@@ -1,9 +1,11 @@
 //! Configurations that are loaded, and the first fault of those that are refused.
+ghost use Rattle.settings.specs.InForm.{IsInForm};
+
 use conf_eval::{LoadError, MAX_TEXTS, laws, load};
-use conf_value::{Config, Truth};
+use conf_value::Config;
 use lt_bytes::{NoMemory, Text, decimal};
 use lt_world::MemTexts;
-use settings::used;
+use settings::global_settings;
 use std::alloc::Global;
 use std::test::Fail;
 
@@ -93,12 +95,10 @@ fn show_number(out: &mut Text, number: u64) -> Result<(), NoMemory> {
 }
 
 // Adds what is set.
-fn show_settings(out: &mut Text, config: &Config) -> Result<(), NoMemory> {
-    let truths = [Truth::True];
-    if config.blocks.len() != truths.len() {
-        return Ok(());
-    }
-    let settings = used(config, &truths);
+fn show_settings(out: &mut Text, config: &Config) -> Result<(), NoMemory>
+    requires form { IsInForm config.now }
+{
+    let settings = global_settings(config);
     out.push_all(settings.server_tag)?;
     show_number(out, settings.server_port)?;
     show_number(out, settings.server_max_request_size)?;

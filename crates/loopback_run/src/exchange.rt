@@ -4,12 +4,15 @@ use crate::folder::Folder;
 use crate::replies::REQUESTS;
 use crate::turns::{Finish, serve};
 use anyhow::{Result, bail};
+use conditions::RegexMaker;
 use conf_eval::{Loaded, load};
 use files_disk::DiskFiles;
 use lt_bytes::Text;
+use lt_commands::server_of;
 use lt_world::MemTexts;
 use mio_net::MioNet;
-use server_core::Server;
+use std::marker::Brand;
+use std::sync::ledger::Blank;
 
 /// The name under which the configuration is loaded.
 const CONF: &[u8] = b"loopback.conf";
@@ -21,7 +24,7 @@ fn configuration(rt: &HostRuntime, folder: &Folder) -> Result<Loaded> {
     let text = format!(in alloc; "server.document-root = \"{path}\"\n")?;
     let mut texts = MemTexts::new(alloc);
     texts.add(CONF, text.as_bytes())?;
-    match load(alloc, CONF, &mut texts) {
+    match load(alloc, CONF, &mut texts, &mut RegexMaker::new(alloc)) {
         Ok(loaded) => Ok(loaded),
         Err(_) => bail!("the configuration is none"),
     }
@@ -42,8 +45,16 @@ pub fn exchange(
         bail!("cannot connect");
     };
     let mut files = DiskFiles::new(rt);
-    let mut server = Server::new(rt.alloc(), &loaded.config)?;
-    let finish = serve(rt, &mut server, net, &mut files, &mut client, &mut bell);
+    let mut server = server_of(rt.alloc(), &loaded)?;
+    let finish = serve::<_, _, _, Brand>(
+        Blank::new(1),
+        rt,
+        &mut server,
+        net,
+        &mut files,
+        &mut client,
+        &mut bell,
+    );
     server.close(&mut files);
     match finish {
         Finish::Ended => Ok(client.into_got()),

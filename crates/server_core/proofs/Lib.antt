@@ -1,4 +1,7 @@
 pub mod Advancing
+mod Comparing
+mod Fresh
+mod Turned
 mod Settling
 pub mod Stepped
 pub mod Buffered

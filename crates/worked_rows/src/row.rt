@@ -4,6 +4,7 @@ ghost use Rattle.std.specs.Prelude.{◌<◌};
 use crate::bytes::{first_word, is_wanted, number, push_number, push_quoted};
 use crate::pieces::{Named, bytes_of};
 use anyhow::{Result, bail};
+use conditions::PlannedMaker;
 use lt_bytes::Text;
 use lt_commands::{Status, offline};
 use lt_script::parse_script;
@@ -53,6 +54,8 @@ pub struct Row<'t> {
     room: u64,
     /// The number of the call for a text that fails.
     fails: Option<u32>,
+    /// The numbers of the patterns that are refused.
+    refuses: Vec<u32>,
     status: u64,
     says: &'t [u8],
     output: Text,
@@ -73,6 +76,7 @@ impl<'t> Row<'t> {
             sends: false,
             room: ROOM,
             fails: None,
+            refuses: Vec::new(alloc),
             status: 0,
             says: b"",
             output: Text::new(alloc),
@@ -103,6 +107,7 @@ impl<'t> Row<'t> {
             b"status" => self.set_status(rest),
             b"room" => self.set_room(rest),
             b"fails" => self.set_failing(rest),
+            b"refuses" => self.push_refused(rest),
             b"include" => self.include(names, rest),
             _ => self.take_bytes(key, bytes_of(self.alloc, names, rest)?),
         }
@@ -210,6 +215,14 @@ impl<'t> Row<'t> {
         Ok(())
     }
 
+    fn push_refused(&mut self, digits: &[u8]) -> Result<()> {
+        match number(digits) {
+            Some(nth) => self.refuses.push((nth % 4_096) as u32)?,
+            None => bail!("no number"),
+        }
+        Ok(())
+    }
+
     /// Makes the calls, and says in a line how they went. Whether they went as they must.
     pub fn play<R: Wait>(&self, rt: &R, report: &mut Text) -> Result<bool> {
         if !self.plays(rt, report, self.script.bytes())? {
@@ -288,11 +301,12 @@ impl<'t> Row<'t> {
     fn call_offline(&self, script: &[u8]) -> Result<(Status, Text)> {
         let words = words_of(self.alloc, self.words)?;
         let mut texts = self.texts(script)?;
+        let mut maker = PlannedMaker::new(self.alloc, &self.refuses)?;
         let mut net = ScriptNet::new(self.alloc);
         let mut files = MemFiles::new(self.alloc);
         let mut sink = MemSink::new(self.alloc, self.room)?;
         let status = offline(
-            self.alloc, &words, &mut texts, &mut net, &mut files, &mut sink,
+            self.alloc, &words, &mut texts, &mut maker, &mut net, &mut files, &mut sink,
         );
         Ok((status, Text::from_bytes(self.alloc, sink.bytes())?))
     }
@@ -301,6 +315,7 @@ impl<'t> Row<'t> {
     fn call_server<R: Wait>(&self, rt: &R, script: &[u8], words: &[u8]) -> Result<(Status, Text)> {
         let words = words_of(self.alloc, words)?;
         let mut texts = self.texts(script)?;
+        let mut maker = PlannedMaker::new(self.alloc, &self.refuses)?;
         let script = parse_script(self.alloc, script)?;
         let mut net = ScriptNet::new(self.alloc);
         let mut files = MemFiles::new(self.alloc);
@@ -308,7 +323,7 @@ impl<'t> Row<'t> {
         plan_files(script.faults.as_slice(), &mut files)?;
         let mut sink = MemSink::new(self.alloc, self.room)?;
         let status = serve(
-            rt, self.alloc, &words, &mut texts, &mut net, &mut files, &mut sink,
+            rt, self.alloc, &words, &mut texts, &mut maker, &mut net, &mut files, &mut sink,
         );
         // Where the sink takes no more, the output is not what the row says.
         let _reported = report(&net, &mut sink);

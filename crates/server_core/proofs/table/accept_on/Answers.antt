@@ -15,11 +15,11 @@ use Rattle.server_core.proofs.Offering.{gains_none, gains_one}
 use Rattle.server_core.proofs.table.accept_on.Goals as goal
 
 pub returns-then-len-ge-CONNECTION_LIMIT-clause-turn : goal.returns-then-len-ge-CONNECTION_LIMIT-clause-turn
-returns-then-len-ge-CONNECTION_LIMIT-clause-turn g c = turn_full c.args.arrival.link.0 c.args.arrival.peer c.args.arrival.local c.args.site.now (helds c.args.clients.now.items) (helds c.args.clients.now.items) g.N.Net.tells g.F.Files.tells (length c.args.store.now.free) (seen_as (g.F.Files.disk c.args.files.now) (g.F.Files.faults c.args.files.now) (g.F.Files.reads c.args.files.now)) (g.N.Net.trace c.args.net.now) (g.N.Net.trace c.close.new.self) (c.requires.table.below c.args.arrival.link.0 (omega arith))
+returns-then-len-ge-CONNECTION_LIMIT-clause-turn g c = turn_full c.args.arrival.link.0 c.args.arrival.peer c.args.arrival.local c.args.planner.now.site (helds c.args.clients.now.items) (helds c.args.clients.now.items) g.N.Net.tells g.F.Files.tells (length c.args.store.now.free) (seen_as (g.F.Files.disk c.args.files.now) (g.F.Files.faults c.args.files.now) (g.F.Files.reads c.args.files.now)) (g.N.Net.trace c.args.net.now) (g.N.Net.trace c.close.new.self) (c.requires.table.below c.args.arrival.link.0 (omega arith))
     (omega (arith, held_length c.args.clients.now.items, c.len.ensures, c.if-len-ge-CONNECTION_LIMIT.true)) refl c.close.ensures.trace c.requires.backs
 
 pub returns-clause-turn : goal.returns-clause-turn
-returns-clause-turn g c = turn_came c.args.arrival.link.0 c.args.arrival.peer c.args.arrival.local c.args.site.now (helds c.args.clients.now.items) (helds c.put_in.new.clients.items) g.N.Net.tells g.F.Files.tells (length c.args.store.now.free) (seen_as (g.F.Files.disk c.args.files.now) (g.F.Files.faults c.args.files.now) (g.F.Files.reads c.args.files.now)) (g.N.Net.trace c.args.net.now) (g.N.Net.trace c.args.net.now) (c.requires.table.below c.args.arrival.link.0 (omega arith))
+returns-clause-turn g c = turn_came c.args.arrival.link.0 c.args.arrival.peer c.args.arrival.local c.args.planner.now.site (helds c.args.clients.now.items) (helds c.put_in.new.clients.items) g.N.Net.tells g.F.Files.tells (length c.args.store.now.free) (seen_as (g.F.Files.disk c.args.files.now) (g.F.Files.faults c.args.files.now) (g.F.Files.reads c.args.files.now)) (g.N.Net.trace c.args.net.now) (g.N.Net.trace c.args.net.now) (c.requires.table.below c.args.arrival.link.0 (omega arith))
     c.new.result.held c.new.ensures.held (ap helds c.put_in.ensures.items ∙ helds_append c.args.clients.now.items (c.new.result ∷ []))
     (omega (arith, held_length c.args.clients.now.items, c.len.ensures, c.if-len-ge-CONNECTION_LIMIT.false)) c.requires.backs
 
