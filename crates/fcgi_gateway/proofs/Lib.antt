@@ -1,0 +1,10 @@
+mod AskedLemmas
+mod Buffers
+mod Fed
+mod FrontLemmas
+mod OverLemmas
+mod SendingLemmas
+mod SentLemmas
+mod Skipped
+mod StateLemmas
+mod TaskLemmas
