@@ -1,11 +1,11 @@
-//! A benchmark: makes a configuration of some blocks and takes its settings many times, by a look at all blocks or by the index,
-//! and prints a sum over what they say. `bench/settings.py` runs it and measures from outside.
+//! A benchmark: makes a configuration of some blocks, takes its settings many times, those of the global block alone or those of
+//! all blocks by the index, and prints a sum over what they say. `bench/settings.py` runs it and measures from outside.
 #![tactic(auto)]
 
 use anyhow::{Result, bail};
 use conf_value::{Block, Config, Pair, Setting, Truth, Value};
 use lt_bytes::{List, NoMemory, Number, Text, read_decimal};
-use settings::{Settings, index_of, used, used_by};
+use settings::{Settings, global_settings, has_few_lists, index_of, used_by};
 use std::alloc::Global;
 use std::env;
 
@@ -20,6 +20,9 @@ const KEYS: [&[u8]; 8] = [
     b"setenv.add-response-header",
     b"var.base",
 ];
+
+/// Blocks of a configuration, at most.
+const MOST_BLOCKS: usize = 1_025;
 
 fn setting(alloc: Global, key: &[u8], value: Value) -> Result<Setting, NoMemory> {
     Ok(Setting {
@@ -88,29 +91,30 @@ fn size(settings: &Settings<'_>) -> u64 {
         .wrapping_add(settings.server_max_request_size)
 }
 
-/// The sum of what is said by the settings that a look at all blocks gives, so many times.
-fn scanned(config: &Config, truths: &[Truth], times: u64) -> u64 {
+/// The sum of what is said by the settings of the global block, so many times.
+fn scanned(config: &Config, times: u64) -> u64 {
     let mut sum = 0u64;
-    if truths.len() == config.blocks.len() {
+    if has_few_lists(config) {
         for _ in 0..times {
             sum = sum
                 .wrapping_mul(3)
-                .wrapping_add(size(&used(config, truths)));
+                .wrapping_add(size(&global_settings(config)));
         }
     }
     sum
 }
 
-/// The same by the index.
+/// The same of the settings of all blocks, by the index.
 fn found(alloc: Global, config: &Config, truths: &[Truth], times: u64) -> Result<u64, NoMemory> {
+    if MOST_BLOCKS < config.blocks.len() || !has_few_lists(config) {
+        return Ok(0);
+    }
     let index = index_of(alloc, config)?;
     let mut sum = 0u64;
-    if truths.len() == config.blocks.len() {
-        for _ in 0..times {
-            sum = sum
-                .wrapping_mul(3)
-                .wrapping_add(size(&used_by(config, &index, truths)));
-        }
+    for _ in 0..times {
+        sum = sum
+            .wrapping_mul(3)
+            .wrapping_add(size(&used_by(config, &index, truths)));
     }
     Ok(sum)
 }
@@ -119,7 +123,7 @@ fn run(alloc: Global, numbers: [u64; 4]) -> Result<u64, NoMemory> {
     let [blocks, types, scans, finds] = numbers;
     let config = configuration(alloc, blocks, types)?;
     let truths = truths(alloc, config.blocks.len())?;
-    let scanned = scanned(&config, truths.as_slice(), scans);
+    let scanned = scanned(&config, scans);
     let found = found(alloc, &config, truths.as_slice(), finds)?;
     Ok(scanned.wrapping_add(found))
 }

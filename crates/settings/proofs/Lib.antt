@@ -1,2 +1,6 @@
-pub mod Winners
-pub mod Finding
+pub mod Due
+pub mod FewLists
+pub mod Found
+pub mod Last
+pub mod Listed
+pub mod Texts

@@ -1,5 +1,5 @@
 -- A configuration in form: what every call that reads one may rely on, and what loading gives.
-use Rattle.std.specs.Prelude.{◌≡◌, ◌≢◌, ℕ, ◌<◌, ◌^◌, ◌⊎◌, ◌↔◌, List, length, Option, Some, None, slice_get}
+use Rattle.std.specs.Prelude.{◌≡◌, ◌≢◌, ℕ, ◌<◌, ◌^◌, List, length, Option, Some, None, slice_get}
 use Rattle.std.specs.Option.{IsSome}
 use Rattle.conf_value.specs.declared.block.Block.{Block}
 use Rattle.conf_value.specs.declared.block.Setting.{Setting}
@@ -13,6 +13,7 @@ use Rattle.conf_value.specs.Addresses.{network_of}
 use Rattle.settings.specs.declared.checking.KeyCheck.{KeyCheck}
 use Rattle.settings.specs.declared.checking.KeyCheck.TheVariants.{Known, Partly, Unknown}
 use Rattle.settings.specs.Checking.{check}
+use Rattle.settings.specs.Indexed.{lists_of_all}
 
 -- ---- conditions
 
@@ -78,3 +79,5 @@ pub record IsInForm (config : Config) : Type 0 where
   pub conditions : (n : ℕ) (block : Block) (condition : Condition) → slice_get config.blocks n ≡ Some block → block.condition ≡ Some condition → IsGoodCondition condition
   pub settings : (n : ℕ) (block : Block) → slice_get config.blocks n ≡ Some block → AreGoodSettings block.settings
   pub few : length config.blocks < 2 ^ 32
+  -- lists of hosts
+  pub lists : lists_of_all config.blocks < 2 ^ 32

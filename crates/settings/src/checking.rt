@@ -1,12 +1,15 @@
 //! Whether a key takes a value.
-ghost use Rattle.std.specs.Prelude.{◌≡◌, ◌==◌};
+ghost use Rattle.std.specs.Prelude.{◌≡◌, ◌≤◌, ◌==◌, drop, length};
 ghost use Rattle.std.specs.List.{list_all, list_any};
 ghost use Rattle.conf_value.specs.declared.value.Pair.{out-Pair};
 ghost use Rattle.conf_value.specs.declared.value.Value.{out-Value};
 ghost use Rattle.settings.specs.Checking as spec;
 
+use crate::entry::{any_has_further, are_good};
 use crate::key::{Key, key_of};
-use crate::rule::{Rule, TextRule};
+use crate::rule::{PortRule, Rule, TextRule};
+use crate::short::are_short;
+use crate::value::is_between;
 use conf_value::{Pair, Value, read_address};
 
 /// The greatest length of a text of a typed key, in bytes.
@@ -52,6 +55,12 @@ fn rule_of(key: Key) -> Rule
         Key::IndexFileNames => Rule::Texts(TextRule::Name),
         Key::MimetypeAssign => Rule::Table(TextRule::Visible),
         Key::ExcludeExtensions => Rule::Texts(TextRule::Any),
+        Key::RewriteOnce => Rule::Table(TextRule::Template),
+        Key::RewriteRepeat => Rule::Table(TextRule::Template),
+        Key::FastcgiServer => Rule::Gateways(PortRule::Needed),
+        Key::FastcgiBalance => Rule::Balance,
+        Key::ProxyServer => Rule::Gateways(PortRule::Optional),
+        Key::ProxyBalance => Rule::Balance,
     }
 }
 
@@ -68,6 +77,8 @@ fn value_check(rule: Rule, value: &Value) -> KeyCheck
         )),
         (Rule::Texts(rule), Value::Array(pairs)) => texts_check(rule, pairs.as_slice()),
         (Rule::Table(rule), Value::Array(pairs)) => table_check(rule, pairs.as_slice()),
+        (Rule::Gateways(rule), Value::Array(pairs)) => gateways_check(rule, pairs.as_slice()),
+        (Rule::Balance, Value::Text(word)) => balance_check(word.bytes()),
         _ => KeyCheck::WrongType,
     }
 }
@@ -79,15 +90,6 @@ fn known_if(holds: bool) -> KeyCheck
         KeyCheck::Known
     } else {
         KeyCheck::BadValue
-    }
-}
-
-fn is_between(least: u64, most: u64, number: i64) -> bool
-    ensures { result ≡ spec.is_between least most number }
-{
-    match u64::try_from(number) {
-        Ok(number) => least <= number && number <= most,
-        Err(_) => false,
     }
 }
 
@@ -173,7 +175,8 @@ fn is_good(rule: TextRule, text: &[u8]) -> bool
     is_short(text) && follows(rule, text)
 }
 
-fn is_short(text: &[u8]) -> bool
+/// No text of a typed key is longer.
+pub(crate) fn is_short(text: &[u8]) -> bool
     ensures { result ≡ spec.is_short text.now }
 {
     text.len() <= TEXT_LIMIT
@@ -188,6 +191,7 @@ fn follows(rule: TextRule, text: &[u8]) -> bool
         TextRule::Address => read_address(text).is_some(),
         TextRule::Visible => is_visible(text),
         TextRule::Name => !has_slash(text),
+        TextRule::Template => !has_name(text),
     }
 }
 
@@ -201,4 +205,85 @@ fn has_slash(text: &[u8]) -> bool
     ensures { result ≡ list_any (λ b. b == 47) text.now }
 {
     text.iter().any(|byte| *byte == b'/')
+}
+
+fn opens_name(text: &[u8]) -> bool
+    ensures { result ≡ spec.opens_name text.now }
+{
+    text.starts_with(b"${") || text.starts_with(b"%{")
+}
+
+fn opens_name_at(text: &[u8], at: usize) -> bool
+    requires { at ≤ length text.now }
+    ensures { result ≡ spec.opens_name (drop at text.now) }
+{
+    let (_, rest) = text.split_at(at);
+    opens_name(rest)
+}
+
+fn has_name(text: &[u8]) -> bool
+    ensures { result ≡ spec.has_name text.now }
+{
+    for at in 0..text.len() {
+        if opens_name_at(text, at) {
+            return true;
+        }
+    }
+    false
+}
+
+/// Arrays of a configuration are nested at most so deep.
+const MOST_NESTING: u32 = 64;
+
+fn gateways_check(rule: PortRule, pairs: &[Pair]) -> KeyCheck
+    ensures { result ≡ spec.gateways_check rule pairs.now }
+{
+    if are_gateways(rule, pairs) {
+        partly_if(any_has_further(pairs))
+    } else {
+        KeyCheck::BadValue
+    }
+}
+
+fn are_gateways(rule: PortRule, pairs: &[Pair]) -> bool
+    ensures { result ≡ spec.are_gateways rule pairs.now }
+{
+    are_short(MOST_NESTING, pairs) && are_good(rule, pairs)
+}
+
+fn partly_if(holds: bool) -> KeyCheck
+    ensures { result ≡ spec.partly_if holds }
+{
+    if holds {
+        KeyCheck::Partly
+    } else {
+        KeyCheck::Known
+    }
+}
+
+fn balance_check(word: &[u8]) -> KeyCheck
+    ensures { result ≡ spec.balance_check word.now }
+{
+    if is_policy(word) {
+        return KeyCheck::Known;
+    }
+    if is_other_policy(word) {
+        KeyCheck::Partly
+    } else {
+        KeyCheck::BadValue
+    }
+}
+
+fn is_policy(word: &[u8]) -> bool
+    ensures { result ≡ spec.is_policy word.now }
+{
+    word == b"fair".as_slice()
+        || word == b"least-connection".as_slice()
+        || word == b"round-robin".as_slice()
+}
+
+fn is_other_policy(word: &[u8]) -> bool
+    ensures { result ≡ spec.is_other_policy word.now }
+{
+    word == b"hash".as_slice() || word == b"sticky".as_slice()
 }

@@ -1,5 +1,5 @@
 //! The keys that have a type.
-ghost use Rattle.std.specs.Prelude.{◌≡◌};
+ghost use Rattle.std.specs.Prelude.{◌≡◌, ◌<◌};
 ghost use Rattle.settings.specs.Keys as spec;
 
 /// A key that has a kind, a default and a rule (lighttpd documentation, "Configuration: all options").
@@ -25,10 +25,22 @@ pub enum Key {
     MimetypeAssign,
     /// `static-file.exclude-extensions`
     ExcludeExtensions,
+    /// `url.rewrite-once`
+    RewriteOnce,
+    /// `url.rewrite-repeat`
+    RewriteRepeat,
+    /// `fastcgi.server`
+    FastcgiServer,
+    /// `fastcgi.balance`
+    FastcgiBalance,
+    /// `proxy.server`
+    ProxyServer,
+    /// `proxy.balance`
+    ProxyBalance,
 }
 
 /// Every typed key.
-pub const KEYS: [Key; 10] = [
+pub const KEYS: [Key; 16] = [
     Key::DocumentRoot,
     Key::Port,
     Key::Bind,
@@ -39,6 +51,12 @@ pub const KEYS: [Key; 10] = [
     Key::IndexFileNames,
     Key::MimetypeAssign,
     Key::ExcludeExtensions,
+    Key::RewriteOnce,
+    Key::RewriteRepeat,
+    Key::FastcgiServer,
+    Key::FastcgiBalance,
+    Key::ProxyServer,
+    Key::ProxyBalance,
 ];
 
 impl Key {
@@ -58,12 +76,19 @@ impl Key {
             Key::IndexFileNames => b"index-file.names",
             Key::MimetypeAssign => b"mimetype.assign",
             Key::ExcludeExtensions => b"static-file.exclude-extensions",
+            Key::RewriteOnce => b"url.rewrite-once",
+            Key::RewriteRepeat => b"url.rewrite-repeat",
+            Key::FastcgiServer => b"fastcgi.server",
+            Key::FastcgiBalance => b"fastcgi.balance",
+            Key::ProxyServer => b"proxy.server",
+            Key::ProxyBalance => b"proxy.balance",
         }
     }
 
     /// Its number among `KEYS`.
     pub(crate) fn row(self) -> usize
-        ensures { result ≡ spec.row self }
+        ensures row { result ≡ spec.row self }
+        ensures within { result < 16 }
     {
         match self {
             Key::DocumentRoot => 0,
@@ -76,6 +101,12 @@ impl Key {
             Key::IndexFileNames => 7,
             Key::MimetypeAssign => 8,
             Key::ExcludeExtensions => 9,
+            Key::RewriteOnce => 10,
+            Key::RewriteRepeat => 11,
+            Key::FastcgiServer => 12,
+            Key::FastcgiBalance => 13,
+            Key::ProxyServer => 14,
+            Key::ProxyBalance => 15,
         }
     }
 
@@ -88,6 +119,7 @@ impl Key {
 }
 
 /// The key of this name.
+#[tactic(auto, unfolding(crate::specs::Keys::key_of))]
 pub fn key_of(name: &[u8]) -> Option<Key>
     ensures { result ≡ spec.key_of name.now }
 {
@@ -103,4 +135,11 @@ fn key_among(keys: &[Key], name: &[u8]) -> Option<Key>
         }
     }
     None
+}
+
+/// Whether the key's value is a list of rules, each with a pattern.
+pub fn is_rule_list(key: &[u8]) -> bool
+    ensures { result ≡ spec.is_rule_list key.now }
+{
+    key == b"url.rewrite-once".as_slice() || key == b"url.rewrite-repeat".as_slice()
 }

@@ -1,21 +1,22 @@
 //! Where the typed keys are set, found once for a configuration, so that no request looks at blocks that set none of them.
-ghost use Rattle.std.specs.Prelude.{◌≡◌, ◌<◌, ◌≤◌, ◌++◌, ◌∷◌, [], List, IfOk, OnOk, length, position};
-ghost use Rattle.std.specs.Option.{option_copied};
+ghost use Rattle.std.specs.Prelude.{◌≡◌, ◌<◌, ◌+◌, ◌^◌, ◌++◌, [], List, IfOk, OnOk, length, map, position, take};
 ghost use Rattle.settings.specs.Indexed as spec;
-ghost use Rattle.settings.specs.Winning.{counting, is_of};
 ghost use Rattle.conf_value.specs.declared.block.Block.{Block};
 
 use crate::key::{KEYS, Key};
-use crate::winning::{blocks_of, later};
-use conf_value::{Block, Config, Setting, Truth};
+use crate::lists::lists_of;
+use conf_value::{Block, Config, Setting};
 use lt_bytes::{List, NoMemory};
 use std::alloc::Global;
 
 /// A setting, by the number of its block and its own number there.
 #[derive(Clone, Copy, Debug, PartialEq, Eq)]
 pub struct Place {
-    pub block: usize,
+    pub block: u32,
     pub at: usize,
+    /// How many lists of hosts stand before it in the configuration: where its value is a list of gateways, the number of the first
+    /// list of hosts in it.
+    pub first_list: u32,
 }
 
 /// For each typed key the places that count, in the order of their blocks.
@@ -26,31 +27,67 @@ pub struct Index {
 
 /// The index of a configuration.
 pub fn index_of(alloc: Global, config: &Config) -> Result<Index, NoMemory>
+    requires few { length config.now.blocks < 2 ^ 32 }
+    requires lists { spec.lists_of_all config.now.blocks < 2 ^ 32 }
     ensures { IfOk result (λ index. spec.IsIndexOf config.now.blocks index) }
 {
-    let mut rows = List::new(alloc);
-    for key in KEYS {
-        rows.push(places_of(alloc, config.blocks.as_slice(), key)?)?;
-    }
+    let rows = rows_of(alloc, config.blocks.as_slice(), KEYS.as_slice())?;
     Ok(Index { rows })
+}
+
+fn rows_of(alloc: Global, blocks: &[Block], keys: &[Key]) -> Result<List<List<Place>>, NoMemory>
+    requires few { length blocks.now < 2 ^ 32 }
+    requires lists { spec.lists_of_all blocks.now < 2 ^ 32 }
+    ensures { IfOk result (λ rows. rows ≡ map (spec.places_of blocks.now) keys.now) }
+{
+    let mut rows = List::new(alloc);
+    for key in keys {
+        rows.push(places_of(alloc, blocks, *key)?)?;
+    }
+    Ok(rows)
 }
 
 #[tactic(auto, unfolding(crate::specs::Indexed::places_of))]
 fn places_of(alloc: Global, blocks: &[Block], key: Key) -> Result<List<Place>, NoMemory>
+    requires few { length blocks.now < 2 ^ 32 }
+    requires lists { spec.lists_of_all blocks.now < 2 ^ 32 }
     ensures { IfOk result (λ places. places ≡ spec.places_of blocks.now key) }
 {
     places_from(alloc, blocks_of(blocks, key), key.name())
 }
 
+/// The blocks in which a typed key counts.
+fn blocks_of(blocks: &[Block], key: Key) -> &[Block]
+    ensures { result.now ≡ spec.blocks_of key blocks.now }
+{
+    if key.is_global() {
+        first(blocks)
+    } else {
+        blocks
+    }
+}
+
+fn first(blocks: &[Block]) -> &[Block]
+    ensures { result.now ≡ take 1 blocks.now }
+{
+    if blocks.is_empty() {
+        return blocks;
+    }
+    let (first, _) = blocks.split_at(1);
+    first
+}
+
 fn places_from(alloc: Global, blocks: &[Block], key: &[u8]) -> Result<List<Place>, NoMemory>
-    ensures { IfOk result (λ places. places ≡ spec.places_from key.now 0 blocks.now) }
+    requires few { length blocks.now < 2 ^ 32 }
+    requires lists { spec.lists_of_all blocks.now < 2 ^ 32 }
+    ensures { IfOk result (λ places. places ≡ spec.places_from key.now 0 0 blocks.now) }
 {
     let mut places = List::new(alloc);
+    let mut lists = 0u32;
     for (number, block) in blocks.iter().enumerate() {
-        push_place(
-            &mut places,
-            place_of(block.settings.as_slice(), key, number),
-        )?;
+        let settings = block.settings.as_slice();
+        push_place(&mut places, place_of(settings, key, number as u32, lists))?;
+        lists += lists_of(settings);
     }
     Ok(places)
 }
@@ -64,17 +101,23 @@ fn push_place(places: &mut List<Place>, place: Option<Place>) -> Result<(), NoMe
     }
 }
 
-fn place_of(settings: &[Setting], key: &[u8], block: usize) -> Option<Place>
-    ensures { result ≡ spec.place_of key.now block settings.now }
+/// The place of a key among the settings of a block, before which there are so many lists of hosts.
+pub(crate) fn place_of(settings: &[Setting], key: &[u8], block: u32, lists: u32) -> Option<Place>
+    requires lists { lists + spec.lists_of settings.now < 2 ^ 32 }
+    ensures { result ≡ spec.place_of key.now block lists settings.now }
 {
     match at(settings, key) {
-        Some(at) => Some(Place { block, at }),
+        Some(at) => Some(Place {
+            block,
+            at,
+            first_list: lists + lists_of(&settings[..at]),
+        }),
         None => None,
     }
 }
 
 fn at(settings: &[Setting], key: &[u8]) -> Option<usize>
-    ensures { result ≡ position (is_of key.now) settings.now }
+    ensures { result ≡ position (spec.is_of key.now) settings.now }
 {
     settings
         .iter()
@@ -90,41 +133,5 @@ impl Index {
             Some(places) => places.as_slice(),
             None => &[],
         }
-    }
-}
-
-/// The setting of a typed key that counts, by way of the index.
-pub fn counting_by<'a>(
-    blocks: &'a [Block],
-    index: &Index,
-    truths: &[Truth],
-    key: Key,
-) -> Option<&'a Setting>
-    requires length { length truths.now ≡ length blocks.now }
-    requires index { spec.IsIndexOf blocks.now index.now }
-    ensures { option_copied result ≡ counting key blocks.now truths.now }
-{
-    winner_at(blocks, truths, index.places(key))
-}
-
-fn winner_at<'a>(blocks: &'a [Block], truths: &[Truth], places: &[Place]) -> Option<&'a Setting>
-    ensures { option_copied result ≡ spec.winner_at blocks.now truths.now places.now }
-{
-    let mut best = None;
-    for place in places {
-        best = later(set_at(blocks, truths, *place), best);
-    }
-    best
-}
-
-fn set_at<'a>(blocks: &'a [Block], truths: &[Truth], place: Place) -> Option<&'a Setting>
-    ensures { option_copied result ≡ spec.set_at blocks.now truths.now place }
-{
-    match truths.get(place.block) {
-        Some(Truth::True) => match blocks.get(place.block) {
-            Some(block) => block.settings.get(place.at),
-            None => None,
-        },
-        _ => None,
     }
 }

@@ -10,6 +10,10 @@ pub enum Rule {
     Texts(TextRule),
     /// An array text to text; the rule is that of its values.
     Table(TextRule),
+    /// An array of entries, each with its hosts.
+    Gateways(PortRule),
+    /// How hosts share requests.
+    Balance,
 }
 
 /// What a text has to be, beside being short.
@@ -24,4 +28,13 @@ pub enum TextRule {
     Visible,
     /// No `/` in it.
     Name,
+    /// No `${` and no `%{` in it: other servers read names of variables there.
+    Template,
+}
+
+/// Whether each host has to say its port.
+#[derive(Clone, Copy, Debug, PartialEq, Eq)]
+pub enum PortRule {
+    Needed,
+    Optional,
 }

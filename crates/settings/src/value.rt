@@ -1,49 +1,32 @@
-//! The value of a setting, by its kind and its rule.
+//! What a value says by its kind, and the rules of numbers and texts.
 ghost use Rattle.std.specs.Prelude.{◌≡◌, ◌<◌, ◌≤◌, ◌^◌};
-ghost use Rattle.std.specs.Option.{option_copied};
-ghost use Rattle.settings.specs.Used as spec;
+ghost use Rattle.conf_value.specs.declared.value.Value.{out-Value};
+ghost use Rattle.settings.specs.Kinds as spec;
 
-use conf_value::{Pair, Setting, Value, read_address};
+use conf_value::{Pair, Value, read_address};
 
-pub fn text_or<'a>(default: &'static [u8], setting: Option<&'a Setting>) -> &'a [u8]
-    ensures { result.now ≡ spec.text_or default.now (option_copied setting.entry) }
+/// The pairs of an array; none of another kind.
+pub fn pairs_in(value: &Value) -> &[Pair]
+    ensures { result.now ≡ spec.pairs_in (out-Value value.now) }
 {
-    match setting {
-        Some(setting) => match &setting.value {
-            Value::Text(text) => text.bytes(),
-            Value::Number(_) | Value::Array(_) => default,
-        },
-        None => default,
+    match value {
+        Value::Array(pairs) => pairs.as_slice(),
+        Value::Number(_) | Value::Text(_) => &[],
     }
 }
 
-pub fn number_or(default: u64, setting: Option<&Setting>) -> u64
-    ensures { result ≡ spec.number_or default (option_copied setting.entry) }
-{
-    match setting {
-        Some(setting) => match &setting.value {
-            Value::Number(number) => natural(*number),
-            Value::Text(_) | Value::Array(_) => default,
-        },
-        None => default,
-    }
-}
-
-fn natural(number: i64) -> u64
+pub fn natural(number: i64) -> u64
     ensures { result ≡ spec.natural number }
 {
     if number < 0 { 0 } else { number as u64 }
 }
 
-pub fn pairs_or_none(setting: Option<&Setting>) -> &[Pair]
-    ensures { result.now ≡ spec.pairs_or_none (option_copied setting.entry) }
+pub fn is_between(least: u64, most: u64, number: i64) -> bool
+    ensures { result ≡ spec.is_between least most number }
 {
-    match setting {
-        Some(setting) => match &setting.value {
-            Value::Array(pairs) => pairs.as_slice(),
-            Value::Number(_) | Value::Text(_) => &[],
-        },
-        None => &[],
+    match u64::try_from(number) {
+        Ok(number) => least <= number && number <= most,
+        Err(_) => false,
     }
 }
 
