@@ -10,6 +10,7 @@ use Rattle.rewrite.specs.declared.rewriting.Rewritten.TheVariants as answer
 use Rattle.rewrite.specs.Rules.{Lists}
 use Rattle.rewrite.specs.Rewriting.{next_of, new_target, Ended, answer_after, kept, taken, after, at_limit, from, rewritten}
 use Rattle.rewrite.specs.Passing.{pass_by, pass_with, limit_answer}
+use Rattle.rewrite.proofs.EndLaws.{passes_from}
 
 -- one pass of the definition, while a new target may be taken
 step : (lists : Target → Lists) (passes : ℕ) (target : Target) → passes < 100
@@ -112,6 +113,14 @@ at_end lists start passes target le reached =
     by (next.Once text) = refl
     by (next.Repeat text) = refl
 
+-- what was taken so far is no more than is taken in all
+pub reached_within : (lists : Target → Lists) (start : Target) (passes : ℕ) (target : Target) → Reached lists start passes target → passes ≤ (rewritten lists start).passes
+unfolding rewritten
+reached_within lists start passes target reached =
+    let so_far = passes_from lists (100 - passes) passes target in
+    let all = ap (λ (e : Ended). e.passes) reached.same in
+    omega (arith, so_far, all)
+
 -- ---- comparisons
 
 -- a look more, after which what was asked still counts
@@ -129,17 +138,14 @@ taken_cost new mid old asked_new asked_mid asked_old passes total most before on
     omega (arith, before, one, times)
 
 -- a look that found no memory
-pub err_cost : (new mid old asked_new asked_mid asked_old passes most : ℕ) → passes ≤ 100 → mid + asked_old ≤ old + passes * most + asked_mid → new + asked_mid ≤ mid + asked_new + 1
-    → new + asked_old ≤ old + 100 * most + asked_new + 1
-err_cost new mid old asked_new asked_mid asked_old passes most few before one =
-    let times : passes * most ≤ 100 * most = mul-le-mul_right most few in
+pub err_cost : (new mid old asked_new asked_mid asked_old passes total most : ℕ) → passes ≤ total → mid + asked_old ≤ old + passes * most + asked_mid → new + asked_mid ≤ mid + asked_new + 1
+    → new + asked_old ≤ old + total * most + asked_new + 1
+err_cost new mid old asked_new asked_mid asked_old passes total most few before one =
+    let times : passes * most ≤ total * most = mul-le-mul_right most few in
     omega (arith, before, one, times)
 
--- no request has more passes than there may be
-pub within_cost : (new old asked_new asked_old total most : ℕ) → total ≤ 100 → new + asked_old ≤ old + total * most + asked_new → new + asked_old ≤ old + 100 * most + asked_new + 1
-within_cost new old asked_new asked_old total most few all =
-    let times : total * most ≤ 100 * most = mul-le-mul_right most few in
-    omega (arith, all, times)
+pub more_cost : (new old asked_new asked_old spent : ℕ) → new + asked_old ≤ old + spent + asked_new → new + asked_old ≤ old + spent + asked_new + 1
+more_cost new old asked_new asked_old spent all = omega (arith, all)
 
 pub new_after : (passes : ℕ) → answer.New ≡ answer_after (passes + 1)
 new_after passes = ap answer_after (sym (add-one passes))

@@ -132,7 +132,8 @@ pub fn rewrite<C: Choices, L: Ledger>(
     ensures right { C.right choices.now target.new conds.new }
     ensures steps { OnOk result (steps.new + C.asked conds.old
         ≤ steps.old + (rewritten (C.lists choices.now) target.old).passes * C.most choices.now + C.asked conds.new) }
-    ensures bounded { steps.new + C.asked conds.old ≤ steps.old + 100 * C.most choices.now + C.asked conds.new + 1 }
+    ensures bounded { steps.new + C.asked conds.old
+        ≤ steps.old + (rewritten (C.lists choices.now) target.old).passes * C.most choices.now + C.asked conds.new + 1 }
     ensures matchers { matchers.new ≡ matchers.old }
 {
     let mut passes = 0u32;

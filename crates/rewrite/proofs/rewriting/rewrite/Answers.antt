@@ -1,8 +1,7 @@
-use Rattle.std.proofs.Common.{◌≡◌, ◌+◌, refl, sym, ap, ◌∙◌, arith}
+use Rattle.std.proofs.Common.{◌≡◌, ◌+◌, ◌*◌, refl, sym, ap, ◌∙◌, arith}
 use Rattle.rewrite.specs.Rewriting.{Ended, rewritten}
 use Rattle.rewrite.specs.Passing.{limit_answer}
-use Rattle.rewrite.proofs.EndLaws.{passes_within}
-use Rattle.rewrite.proofs.Looping.{at_kept, at_bad, at_once, at_repeat, at_end, kept_cost, taken_cost, err_cost, within_cost, new_after}
+use Rattle.rewrite.proofs.Looping.{at_kept, at_bad, at_once, at_repeat, at_end, kept_cost, taken_cost, err_cost, more_cost, new_after, reached_within}
 use Rattle.rewrite.proofs.rewriting.rewrite.Goals as goal
 
 pub returns-in-Ok-Kept-clause-answer : goal.returns-in-Ok-Kept-clause-answer
@@ -18,8 +17,7 @@ returns-in-Ok-Kept-clause-steps g c =
 
 pub returns-in-Ok-Kept-clause-bounded : goal.returns-in-Ok-Kept-clause-bounded
 returns-in-Ok-Kept-clause-bounded g c =
-    within_cost c.look.new.steps c.args.steps.now (g.C.Choices.asked c.look.new.conds) (g.C.Choices.asked c.args.conds.now) (rewritten (g.C.Choices.lists c.args.choices.now) c.args.target.now).passes (g.C.Choices.most c.args.choices.now)
-    (passes_within (g.C.Choices.lists c.args.choices.now) c.args.target.now)
+    more_cost c.look.new.steps c.args.steps.now (g.C.Choices.asked c.look.new.conds) (g.C.Choices.asked c.args.conds.now) ((rewritten (g.C.Choices.lists c.args.choices.now) c.args.target.now).passes * g.C.Choices.most c.args.choices.now)
     (kept_cost c.look.new.steps c.loop-passes.steps c.args.steps.now (g.C.Choices.asked c.look.new.conds) (g.C.Choices.asked c.loop-passes.conds) (g.C.Choices.asked c.args.conds.now) c.loop-passes.passes (rewritten (g.C.Choices.lists c.args.choices.now) c.args.target.now).passes (g.C.Choices.most c.args.choices.now)
     c.loop-passes.invariant.steps (rw c.in-Ok-Kept.field-0-is at c.in-Ok-Kept.ensures.steps) (ap (λ (e : Ended). e.passes) (at_kept (g.C.Choices.lists c.args.choices.now) c.args.target.now c.loop-passes.passes c.loop-passes.target c.look.new.target c.loop-passes-test.true c.loop-passes.invariant.reached (rw c.in-Ok-Kept.field-0-is at c.in-Ok-Kept.ensures.pass))))
 
@@ -36,8 +34,7 @@ returns-in-Ok-Bad-clause-steps g c =
 
 pub returns-in-Ok-Bad-clause-bounded : goal.returns-in-Ok-Bad-clause-bounded
 returns-in-Ok-Bad-clause-bounded g c =
-    within_cost c.look.new.steps c.args.steps.now (g.C.Choices.asked c.look.new.conds) (g.C.Choices.asked c.args.conds.now) (rewritten (g.C.Choices.lists c.args.choices.now) c.args.target.now).passes (g.C.Choices.most c.args.choices.now)
-    (passes_within (g.C.Choices.lists c.args.choices.now) c.args.target.now)
+    more_cost c.look.new.steps c.args.steps.now (g.C.Choices.asked c.look.new.conds) (g.C.Choices.asked c.args.conds.now) ((rewritten (g.C.Choices.lists c.args.choices.now) c.args.target.now).passes * g.C.Choices.most c.args.choices.now)
     (kept_cost c.look.new.steps c.loop-passes.steps c.args.steps.now (g.C.Choices.asked c.look.new.conds) (g.C.Choices.asked c.loop-passes.conds) (g.C.Choices.asked c.args.conds.now) c.loop-passes.passes (rewritten (g.C.Choices.lists c.args.choices.now) c.args.target.now).passes (g.C.Choices.most c.args.choices.now)
     c.loop-passes.invariant.steps (rw c.in-Ok-Bad.field-0-is at c.in-Ok-Bad.ensures.steps) (ap (λ (e : Ended). e.passes) (at_bad (g.C.Choices.lists c.args.choices.now) c.args.target.now c.loop-passes.passes c.loop-passes.target c.look.new.target c.loop-passes-test.true c.loop-passes.invariant.reached (rw c.in-Ok-Bad.field-0-is at c.in-Ok-Bad.ensures.pass))))
 
@@ -54,14 +51,14 @@ returns-in-Ok-Once-clause-steps g c =
 
 pub returns-in-Ok-Once-clause-bounded : goal.returns-in-Ok-Once-clause-bounded
 returns-in-Ok-Once-clause-bounded g c =
-    within_cost c.look.new.steps c.args.steps.now (g.C.Choices.asked c.look.new.conds) (g.C.Choices.asked c.args.conds.now) (rewritten (g.C.Choices.lists c.args.choices.now) c.args.target.now).passes (g.C.Choices.most c.args.choices.now)
-    (passes_within (g.C.Choices.lists c.args.choices.now) c.args.target.now)
+    more_cost c.look.new.steps c.args.steps.now (g.C.Choices.asked c.look.new.conds) (g.C.Choices.asked c.args.conds.now) ((rewritten (g.C.Choices.lists c.args.choices.now) c.args.target.now).passes * g.C.Choices.most c.args.choices.now)
     (taken_cost c.look.new.steps c.loop-passes.steps c.args.steps.now (g.C.Choices.asked c.look.new.conds) (g.C.Choices.asked c.loop-passes.conds) (g.C.Choices.asked c.args.conds.now) c.loop-passes.passes (rewritten (g.C.Choices.lists c.args.choices.now) c.args.target.now).passes (g.C.Choices.most c.args.choices.now)
     c.loop-passes.invariant.steps (rw c.in-Ok-Once.field-0-is at c.in-Ok-Once.ensures.steps) (ap (λ (e : Ended). e.passes) (at_once (g.C.Choices.lists c.args.choices.now) c.args.target.now c.loop-passes.passes c.loop-passes.target c.look.new.target c.loop-passes-test.true c.loop-passes.invariant.reached (rw c.in-Ok-Once.field-0-is at c.in-Ok-Once.ensures.pass))))
 
 pub returns-in-Err-clause-bounded : goal.returns-in-Err-clause-bounded
 returns-in-Err-clause-bounded g c =
-    err_cost c.look.new.steps c.loop-passes.steps c.args.steps.now (g.C.Choices.asked c.look.new.conds) (g.C.Choices.asked c.loop-passes.conds) (g.C.Choices.asked c.args.conds.now) c.loop-passes.passes (g.C.Choices.most c.args.choices.now) c.loop-passes.invariant.reached.within c.loop-passes.invariant.steps c.in-Err.ensures.err
+    err_cost c.look.new.steps c.loop-passes.steps c.args.steps.now (g.C.Choices.asked c.look.new.conds) (g.C.Choices.asked c.loop-passes.conds) (g.C.Choices.asked c.args.conds.now) c.loop-passes.passes (rewritten (g.C.Choices.lists c.args.choices.now) c.args.target.now).passes (g.C.Choices.most c.args.choices.now)
+    (reached_within (g.C.Choices.lists c.args.choices.now) c.args.target.now c.loop-passes.passes c.loop-passes.target c.loop-passes.invariant.reached) c.loop-passes.invariant.steps c.in-Err.ensures.err
 
 pub loop-passes-preserved : goal.loop-passes-preserved
 loop-passes-preserved g c = record {
@@ -86,3 +83,18 @@ returns-clause-steps g c =
     kept_cost c.next.new.steps c.loop-passes.steps c.args.steps.now (g.C.Choices.asked c.next.new.conds) (g.C.Choices.asked c.loop-passes.conds) (g.C.Choices.asked c.args.conds.now)
     c.loop-passes.passes (rewritten (g.C.Choices.lists c.args.choices.now) c.args.target.now).passes (g.C.Choices.most c.args.choices.now)
     c.loop-passes.invariant.steps (omega (arith, one)) (total ∙ hundred)
+
+pub returns-clause-bounded : goal.returns-clause-bounded
+returns-clause-bounded g c =
+    let hundred : 100 ≡ c.loop-passes.passes = let most = c.loop-passes.invariant.reached.within in omega (arith, most, c.loop-passes-test.false) in
+    let total = ap (λ (e : Ended). e.passes) (at_end (g.C.Choices.lists c.args.choices.now) c.args.target.now c.loop-passes.passes c.loop-passes.target c.loop-passes-test.false c.loop-passes.invariant.reached) in
+    let one = c.in_ok-last.ensures.steps in
+    more_cost c.next.new.steps c.args.steps.now (g.C.Choices.asked c.next.new.conds) (g.C.Choices.asked c.args.conds.now) ((rewritten (g.C.Choices.lists c.args.choices.now) c.args.target.now).passes * g.C.Choices.most c.args.choices.now)
+    (kept_cost c.next.new.steps c.loop-passes.steps c.args.steps.now (g.C.Choices.asked c.next.new.conds) (g.C.Choices.asked c.loop-passes.conds) (g.C.Choices.asked c.args.conds.now)
+    c.loop-passes.passes (rewritten (g.C.Choices.lists c.args.choices.now) c.args.target.now).passes (g.C.Choices.most c.args.choices.now)
+    c.loop-passes.invariant.steps (omega (arith, one)) (total ∙ hundred))
+
+pub returns-in_err-last-clause-bounded : goal.returns-in_err-last-clause-bounded
+returns-in_err-last-clause-bounded g c =
+    err_cost c.next.new.steps c.loop-passes.steps c.args.steps.now (g.C.Choices.asked c.next.new.conds) (g.C.Choices.asked c.loop-passes.conds) (g.C.Choices.asked c.args.conds.now) c.loop-passes.passes (rewritten (g.C.Choices.lists c.args.choices.now) c.args.target.now).passes (g.C.Choices.most c.args.choices.now)
+    (reached_within (g.C.Choices.lists c.args.choices.now) c.args.target.now c.loop-passes.passes c.loop-passes.target c.loop-passes.invariant.reached) c.loop-passes.invariant.steps c.next.ensures.bounded
