@@ -2,12 +2,15 @@
 //! of media types that were loaded, all added up. `bench/load.py` runs it and measures from outside.
 #![tactic(auto)]
 
+ghost use Rattle.settings.specs.InForm.{IsInForm};
+
 use anyhow::{Result, bail};
+use conditions::RegexMaker;
 use conf_eval::load;
-use conf_value::{Config, Truth};
+use conf_value::Config;
 use lt_bytes::{NoMemory, Number, Text, decimal, read_decimal};
 use lt_world::MemTexts;
-use settings::used;
+use settings::global_settings;
 use std::alloc::Global;
 use std::env;
 
@@ -34,18 +37,16 @@ fn texts_of(alloc: Global, types: u64) -> Result<MemTexts, NoMemory> {
     Ok(texts)
 }
 
-/// How many media types a configuration of one block sets.
-fn size(config: &Config) -> u64 {
-    let truths = [Truth::True];
-    if config.blocks.len() != truths.len() {
-        return 0;
-    }
-    used(config, &truths).mimetype_assign.len() as u64
+/// How many media types a configuration sets in its global block.
+fn size(config: &Config) -> u64
+    requires form { IsInForm config.now }
+{
+    global_settings(config).mimetype_assign.len() as u64
 }
 
 /// How many media types are loaded, or of a refusal nothing.
 fn loaded(alloc: Global, texts: &mut MemTexts) -> u64 {
-    match load(alloc, NAME, texts) {
+    match load(alloc, NAME, texts, &mut RegexMaker::new(alloc)) {
         Ok(loaded) => size(&loaded.config),
         Err(_) => 0,
     }

@@ -1,14 +1,12 @@
--- What is loaded is in form.
+-- The settings of a block are in form.
 use Rattle.std.proofs.Common.{◌≡◌, ◌≢◌, ℕ, zero, suc, List, [], ◌∷◌, slice_get, Option, Some, None, is_some, unwrap_or, Bool, true, false, if◌then◌else◌, refl, sym, ◌∙◌, ap, subst, arith}
 use Rattle.std.specs.Str.{bytes_eq}
 use Rattle.std.proofs.lemmas.Slice.Eq.{bytes_eq-Decides}
 use Rattle.conf_value.specs.declared.value.Value.{Value}
 use Rattle.conf_value.specs.declared.block.Setting.{Setting}
-use Rattle.conf_value.specs.declared.block.Block.{Block}
-use Rattle.conf_value.specs.declared.block.Warning.{Warning}
 use Rattle.settings.specs.Checking.{check}
-use Rattle.settings.specs.InForm.{IsTaken, AreGoodSettings, IsGlobal, IsInForm}
-use Rattle.conf_eval.specs.Settings.{setting, value_of, with_setting, global, blocks_of}
+use Rattle.settings.specs.InForm.{IsTaken, AreGoodSettings}
+use Rattle.conf_eval.specs.Settings.{value_of, with_setting}
 use Rattle.conf_eval.specs.Forms.{AreGood}
 use Rattle.conf_eval.proofs.Placed.{bytes_same, no}
 
@@ -17,13 +15,13 @@ use Rattle.conf_eval.proofs.Placed.{bytes_same, no}
 some_of : {A : Type 0} (x y : A) → Some x ≡ Some y → x ≡ y
 some_of x y p = ap (λ o. unwrap_or o x) p
 
-value_other : (settings : List Setting) (key q : List ℕ) (value : Value) → bytes_eq key q ≡ false → value_of q (with_setting settings key value) ≡ value_of q settings
-value_other [] key q value apart = ap (λ (b : Bool). if b then Some value else None) apart
-value_other (s ∷ settings) key q value apart = by (value_other settings key q value apart) (bytes_eq s.key key) refl
+value_other : (settings : List Setting) (new : Setting) (q : List ℕ) → bytes_eq new.key q ≡ false → value_of q (with_setting settings new) ≡ value_of q settings
+value_other [] new q apart = ap (λ (b : Bool). if b then Some new.value else None) apart
+value_other (s ∷ settings) new q apart = by (value_other settings new q apart) (bytes_eq s.key new.key) refl
   where
-    by : value_of q (with_setting settings key value) ≡ value_of q settings → (b : Bool) → bytes_eq s.key key ≡ b → value_of q (if b then setting key value ∷ settings else s ∷ with_setting settings key value) ≡ (if bytes_eq s.key q then Some s.value else value_of q settings)
-    by rest true e = ap (λ (b : Bool). if b then Some value else value_of q settings) apart
-        ∙ sym (ap (λ (b : Bool). if b then Some s.value else value_of q settings) (ap (λ (l : List ℕ). bytes_eq l q) ((bytes_eq-Decides s.key key).0 e) ∙ apart))
+    by : value_of q (with_setting settings new) ≡ value_of q settings → (b : Bool) → bytes_eq s.key new.key ≡ b → value_of q (if b then new ∷ settings else s ∷ with_setting settings new) ≡ (if bytes_eq s.key q then Some s.value else value_of q settings)
+    by rest true e = ap (λ (b : Bool). if b then Some new.value else value_of q settings) apart
+        ∙ sym (ap (λ (b : Bool). if b then Some s.value else value_of q settings) (ap (λ (l : List ℕ). bytes_eq l q) ((bytes_eq-Decides s.key new.key).0 e) ∙ apart))
     by rest false e = ap (λ (o : Option Value). if bytes_eq s.key q then Some s.value else o) rest
 
 turned : (a b : List ℕ) → bytes_eq a b ≡ false → bytes_eq b a ≡ false
@@ -33,13 +31,13 @@ turned a b e = by (bytes_eq b a) refl
     by true q = sym (bytes_same a) ∙ ap (λ (l : List ℕ). bytes_eq a l) (sym ((bytes_eq-Decides b a).0 q)) ∙ e
     by false q = refl
 
-pub good_set : (settings : List Setting) (key : List ℕ) (value : Value) → AreGood settings → IsTaken (check key value) → AreGood (with_setting settings key value)
-good_set [] key value good taken = (refl, taken, tt)
-good_set (s ∷ settings) key value good taken = by (good_set settings key value good.2 taken) (bytes_eq s.key key) refl
+pub good_set : (settings : List Setting) (new : Setting) → AreGood settings → IsTaken (check new.key new.value) → AreGood (with_setting settings new)
+good_set [] new good taken = (refl, taken, tt)
+good_set (s ∷ settings) new good taken = by (good_set settings new good.2 taken) (bytes_eq s.key new.key) refl
   where
-    by : AreGood (with_setting settings key value) → (b : Bool) → bytes_eq s.key key ≡ b → AreGood (if b then setting key value ∷ settings else s ∷ with_setting settings key value)
-    by rest true e = (subst (λ (k : List ℕ). value_of k settings ≡ None) ((bytes_eq-Decides s.key key).0 e) good.0, taken, good.2)
-    by rest false e = (value_other settings key s.key value (turned s.key key e) ∙ good.0, good.1, rest)
+    by : AreGood (with_setting settings new) → (b : Bool) → bytes_eq s.key new.key ≡ b → AreGood (if b then new ∷ settings else s ∷ with_setting settings new)
+    by rest true e = (subst (λ (k : List ℕ). value_of k settings ≡ None) ((bytes_eq-Decides s.key new.key).0 e) good.0, taken, good.2)
+    by rest false e = (value_other settings new s.key (turned s.key new.key e) ∙ good.0, good.1, rest)
 
 -- ---- settings in form
 
@@ -66,19 +64,3 @@ taken (x ∷ settings) good (suc i) s p = taken settings good.2 i s p
 
 pub good_settings : (settings : List Setting) → AreGood settings → AreGoodSettings settings
 good_settings settings good = record { once = once settings good; taken = taken settings good }
-
--- ---- the global block alone
-
-only : (block : Block) (n : ℕ) (b : Block) → slice_get (block ∷ []) n ≡ Some b → (n ≡ 0) × (block ≡ b)
-only block zero b p = (refl, some_of block b p)
-only block (suc n) b p = no (ap is_some p)
-
-pub in_form : (settings : List Setting) (warnings : List Warning) → AreGoodSettings settings → IsInForm (record { blocks = blocks_of settings; warnings = warnings })
-in_form settings warnings good = record {
-  first = (global settings, refl);
-  global = λ b p. subst IsGlobal (only (global settings) 0 b p).1 (record { parent = refl; chain = refl; condition = refl });
-  inner = λ n b p other. absurd (other (only (global settings) n b p).0);
-  conditions = λ n b condition p c. no (ap is_some (ap (λ (y : Block). y.condition) (only (global settings) n b p).1 ∙ c));
-  settings = λ n b p. subst (λ (y : Block). AreGoodSettings y.settings) (only (global settings) n b p).1 good;
-  few = omega arith;
-}

@@ -2,7 +2,14 @@ pub mod Placed
 pub mod Tables
 pub mod Evaluated
 pub mod Forms
+pub mod Induction
 pub mod Courses
-pub mod Loads
+pub mod Endings
 pub mod Determined
+pub mod Answered
 pub mod FirstCall
+pub mod Loads
+pub mod Heads
+pub mod Sounds
+pub mod Openings
+pub mod Nested

@@ -4,16 +4,15 @@ use Rattle.std.specs.Str.{bytes_eq}
 use Rattle.std.proofs.lemmas.Slice.Eq.{bytes_eq-Decides}
 use Rattle.conf_value.specs.declared.value.Value.{Value}
 use Rattle.conf_value.specs.declared.block.Setting.{Setting}
-use Rattle.conf_eval.specs.Settings.{setting, value_of, with_setting, or_else}
-use Rattle.conf_eval.specs.Global.{look}
+use Rattle.conf_eval.specs.Settings.{value_of, with_setting}
 use Rattle.conf_eval.specs.Places.{further, sets_key, place_of_setting}
 use Rattle.conf_eval.proofs.Placed.{puts, found, lacks, stays}
 
 -- ---- settings
 
-with_setting-puts : (settings : List Setting) (key : List ℕ) (value : Value) → with_setting settings key value ≡ puts sets_key settings key (setting key value)
-with_setting-puts [] key value = refl
-with_setting-puts (s ∷ settings) key value = ap (λ (l : List Setting). if bytes_eq s.key key then setting key value ∷ settings else s ∷ l) (with_setting-puts settings key value)
+with_setting-puts : (settings : List Setting) (new : Setting) → with_setting settings new ≡ puts sets_key settings new.key new
+with_setting-puts [] new = refl
+with_setting-puts (s ∷ settings) new = ap (λ (l : List Setting). if bytes_eq s.key new.key then new ∷ settings else s ∷ l) (with_setting-puts settings new)
 
 each_setting : (key : List ℕ) (s : Setting) → sets_key s key ≡ true → (k : List ℕ) → sets_key s k ≡ bytes_eq key k
 each_setting key s e k = ap (λ (l : List ℕ). bytes_eq l k) ((bytes_eq-Decides s.key key).0 e)
@@ -36,36 +35,28 @@ value_by (s ∷ settings) key = by (value_by settings key) (bytes_eq s.key key)
     by rest false = rest ∙ sym (shift s settings (place_of_setting settings key))
 
 -- a key that is there is set in its place
-pub record SetsAt (settings : List Setting) (key : List ℕ) (at : ℕ) : Type 0 where
+pub record SetsAt (settings : List Setting) (new : Setting) (at : ℕ) : Type 0 where
   pub below : at < length settings
-  pub put : (value : Value) → with_setting settings key value ≡ slice_set settings at (setting key value)
-  pub stays : (value : Value) (q : List ℕ) → place_of_setting (slice_set settings at (setting key value)) q ≡ place_of_setting settings q
+  pub put : with_setting settings new ≡ slice_set settings at new
+  pub stays : (q : List ℕ) → place_of_setting (slice_set settings at new) q ≡ place_of_setting settings q
 
-pub sets_at : (settings : List Setting) (key : List ℕ) (at : ℕ) → place_of_setting settings key ≡ Some at → SetsAt settings key at
-sets_at settings key at p = let h = found sets_key settings key at p in record {
+pub sets_at : (settings : List Setting) (new : Setting) (at : ℕ) → place_of_setting settings new.key ≡ Some at → SetsAt settings new at
+sets_at settings new at p = let h = found sets_key settings new.key at p in record {
   below = h.below;
-  put = λ value. with_setting-puts settings key value ∙ h.put (setting key value);
-  stays = λ value q. ap (λ (l : List Setting). place_of_setting l q) (sym (h.put (setting key value))) ∙ stays sets_key settings key (setting key value) (λ k. refl) (each_setting key) at p q;
+  put = with_setting-puts settings new ∙ h.put new;
+  stays = λ q. ap (λ (l : List Setting). place_of_setting l q) (sym (h.put new)) ∙ stays sets_key settings new.key new (λ k. refl) (each_setting new.key) at p q;
 }
 
 -- a key that isn't there is set behind the others
-pub record SetsLast (settings : List Setting) (key : List ℕ) : Type 0 where
-  pub put : (value : Value) → with_setting settings key value ≡ settings ++ setting key value ∷ []
-  pub placed : (value : Value) (q : List ℕ) → place_of_setting (settings ++ setting key value ∷ []) q ≡ (if bytes_eq key q then Some (length settings) else place_of_setting settings q)
+pub record SetsLast (settings : List Setting) (new : Setting) : Type 0 where
+  pub put : with_setting settings new ≡ settings ++ new ∷ []
+  pub placed : (q : List ℕ) → place_of_setting (settings ++ new ∷ []) q ≡ (if bytes_eq new.key q then Some (length settings) else place_of_setting settings q)
 
-pub sets_last : (settings : List Setting) (key : List ℕ) → place_of_setting settings key ≡ None → SetsLast settings key
-sets_last settings key p = let h = lacks sets_key settings key p in record {
-  put = λ value. with_setting-puts settings key value ∙ h.put (setting key value);
-  placed = λ value q. ap (λ (l : List Setting). place_of_setting l q) (sym (h.put (setting key value))) ∙ h.placed (setting key value) (λ k. refl) q;
+pub sets_last : (settings : List Setting) (new : Setting) → place_of_setting settings new.key ≡ None → SetsLast settings new
+sets_last settings new p = let h = lacks sets_key settings new.key p in record {
+  put = with_setting-puts settings new ∙ h.put new;
+  placed = λ q. ap (λ (l : List Setting). place_of_setting l q) (sym (h.put new)) ∙ h.placed new (λ k. refl) q;
 }
-
-or_none : (o : Option Value) → or_else o None ≡ o
-or_none (Some value) = refl
-or_none None = refl
-
--- the global block alone is looked at
-pub look_is : (settings : List Setting) (key : List ℕ) → look settings key ≡ value_of key settings
-look_is settings key = or_none (value_of key settings)
 
 -- ---- what is found
 

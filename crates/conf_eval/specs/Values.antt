@@ -79,10 +79,14 @@ module _ (look : Text → Option Value) (array : List Item → Valued) where
   term_of (Term-F.Var key) = known (look key)
   term_of (Term-F.Array items) = array items
 
+  -- a term is joined to a value
+  abbrev pub plus : Value → Term → Valued
+  plus value t = proceed (term_of (out-Term t)) (joins value)
+
   -- the terms behind a value are joined to it, one after another
   abbrev pub added : Value → List Term → Valued
   added value [] = Ok value
-  added value (t ∷ ts) = proceed (term_of (out-Term t)) (λ next. proceed (joins value next) (λ sum. added sum ts))
+  added value (t ∷ ts) = proceed (plus value t) (λ sum. added sum ts)
 
   -- a sum; no text spells an empty one
   abbrev pub sum_of : List Term → Valued

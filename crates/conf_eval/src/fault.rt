@@ -1,6 +1,8 @@
 //! What is loaded, and why a configuration is refused.
 
+use crate::pattern::Pattern;
 use conf_value::Config;
+use lt_bytes::List;
 
 /// What can be wrong with a configuration. Its number is the variant's.
 #[derive(Clone, Copy, Debug, PartialEq, Eq)]
@@ -50,10 +52,11 @@ pub struct ConfFault {
     pub line: u32,
 }
 
-/// A configuration that was loaded.
+/// A configuration that was loaded, and the patterns of its conditions and rules by their numbers, which count from 0.
 #[derive(Drop)]
 pub struct Loaded {
     pub config: Config,
+    pub patterns: List<Pattern>,
 }
 
 /// Why nothing was loaded.

@@ -1,6 +1,6 @@
 //! What was loaded so far.
 
-use crate::table::Table;
+use crate::blocks::Blocks;
 use conf_value::Warning;
 use lt_bytes::List;
 use std::alloc::Global;
@@ -9,8 +9,8 @@ use std::alloc::Global;
 #[derive(Drop)]
 pub struct Loading {
     pub alloc: Global,
-    /// The settings of the global block.
-    pub table: Table,
+    /// The blocks, and the patterns of their conditions and rules.
+    pub built: Blocks,
     pub warnings: List<Warning>,
     /// How many texts were fetched.
     pub files: u32,

@@ -1,5 +1,5 @@
 //! The settings of a block, found by their keys.
-ghost use Rattle.std.specs.Prelude.{◌≡◌, [], None, OnOk};
+ghost use Rattle.std.specs.Prelude.{◌≡◌, [], None, OnOk, OnErr};
 ghost use Rattle.std.specs.Option.{option_copied};
 ghost use Rattle.settings.specs.Checking.{check};
 ghost use Rattle.settings.specs.InForm.{AreGoodSettings, IsTaken};
@@ -8,7 +8,7 @@ ghost use Rattle.conf_eval.specs.Settings.{value_of, with_setting};
 
 use crate::places::Places;
 use conf_value::{Setting, Value};
-use lt_bytes::{List, NoMemory, Text};
+use lt_bytes::{List, NoMemory};
 use std::alloc::Global;
 use std::marker::Model;
 
@@ -60,28 +60,30 @@ impl Table {
     }
 
     /// Sets a key: in its place if it was set before, else behind the others.
-    pub fn set(&mut self, key: Text, value: Value) -> Result<(), NoMemory>
-        requires taken { IsTaken (check key value) }
-        ensures { OnOk result (self.new ≡ with_setting self.old key value) }
+    pub fn set(&mut self, setting: Setting) -> Result<(), NoMemory>
+        requires taken { IsTaken (check setting.key setting.value) }
+        ensures ok { OnOk result (self.new ≡ with_setting self.old setting) }
+        ensures err { OnErr result (self.new ≡ self.old) }
     {
-        match self.places.find(key.bytes()) {
+        match self.places.find(setting.key.bytes()) {
             Some(at) => {
-                self.settings.replace(at, setting(key, value));
+                self.settings.replace(at, setting);
                 Ok(())
             }
-            None => self.append(key, value),
+            None => self.append(setting),
         }
     }
 
     // Sets a key that was not set.
-    fn append(&mut self, key: Text, value: Value) -> Result<(), NoMemory>
-        requires taken { IsTaken (check key value) }
-        requires absent { place_of_setting self.old key ≡ None }
-        ensures { OnOk result (self.new ≡ with_setting self.old key value) }
+    fn append(&mut self, setting: Setting) -> Result<(), NoMemory>
+        requires taken { IsTaken (check setting.key setting.value) }
+        requires absent { place_of_setting self.old setting.key ≡ None }
+        ensures ok { OnOk result (self.new ≡ with_setting self.old setting) }
+        ensures err { OnErr result (self.new ≡ self.old) }
     {
         let at = self.settings.len();
-        let name = self.places.name(key.bytes())?;
-        self.settings.push(setting(key, value))?;
+        let name = self.places.name(setting.key.bytes())?;
+        self.settings.push(setting)?;
         match self.places.put(name, at) {
             Ok(()) => Ok(()),
             Err(_) => {
@@ -96,15 +98,5 @@ impl Table {
         ensures good { AreGoodSettings result }
     {
         self.settings
-    }
-}
-
-fn setting(key: Text, value: Value) -> Setting
-    ensures { result ≡ record { key = key; value = value; first_pattern = 0 } }
-{
-    Setting {
-        key,
-        value,
-        first_pattern: 0,
     }
 }

@@ -1,11 +1,14 @@
 //! The values of statements.
-ghost use Rattle.std.specs.Prelude.{◌≡◌, [], Ok};
+ghost use Rattle.std.specs.Prelude.{◌≡◌, [], Result, Ok};
+ghost use Rattle.conf_eval.specs.declared.halt.Wrong.{Wrong};
+ghost use Rattle.conf_value.specs.declared.value.Value.{Value};
+ghost use Rattle.conf_eval.specs.Faults.{proceed};
 ghost use Rattle.conf_eval.specs.Answers.{Is};
 ghost use Rattle.conf_eval.specs.Values as spec;
-ghost use Rattle.conf_eval.specs.Global.{look};
+ghost use Rattle.conf_eval.specs.Kept.{look};
 
 use crate::halt::{Halt, Wrong};
-use crate::table::Table;
+use crate::scope::{Scope, value_in};
 use crate::within::is_within;
 use conf_parse::{Item, MAX_NESTING, Term};
 use conf_value::{JoinFault, Pair, Value, array_of, join};
@@ -14,7 +17,7 @@ use std::alloc::Global;
 
 /// A sum from left to right, in which arrays may nest so deep.
 #[cycle(value)]
-pub fn sum(alloc: Global, room: u32, scope: &Table, terms: &[Term]) -> Result<Value, Halt>
+pub fn sum(alloc: Global, room: u32, scope: &Scope<'_>, terms: &[Term]) -> Result<Value, Halt>
     ensures { Is (spec.sum_value (look scope.now) room terms.now) result }
 {
     let Some((first, others)) = terms.split_first() else {
@@ -22,14 +25,27 @@ pub fn sum(alloc: Global, room: u32, scope: &Table, terms: &[Term]) -> Result<Va
     };
     let mut value = term(alloc, room, scope, first)?;
     for other in others {
-        let next = term(alloc, room, scope, other)?;
-        value = joined(alloc, value, next)?;
+        let next = term(alloc, room, scope, other);
+        match plus(alloc, value, next) {
+            Ok(sum) => value = sum,
+            Err(halt) => return Err(halt),
+        }
     }
     Ok(value)
 }
 
+// A value and the one that comes next, if there is one.
+fn plus(alloc: Global, value: Value, next: Result<Value, Halt>) -> Result<Value, Halt>
+    ensures { (due : Result Value Wrong) → Is due next → Is (proceed due (spec.joins value)) result }
+{
+    match next {
+        Ok(next) => joined(alloc, value, next),
+        Err(halt) => Err(halt),
+    }
+}
+
 #[cycle(value)]
-fn term(alloc: Global, room: u32, scope: &Table, term: &Term) -> Result<Value, Halt>
+fn term(alloc: Global, room: u32, scope: &Scope<'_>, term: &Term) -> Result<Value, Halt>
     ensures { Is (spec.term_value (look scope.now) room term.now) result }
 {
     match term {
@@ -41,7 +57,7 @@ fn term(alloc: Global, room: u32, scope: &Table, term: &Term) -> Result<Value, H
 }
 
 #[cycle(value)]
-fn array(alloc: Global, room: u32, scope: &Table, items: &[Item]) -> Result<Value, Halt>
+fn array(alloc: Global, room: u32, scope: &Scope<'_>, items: &[Item]) -> Result<Value, Halt>
     ensures { Is (spec.array_value (look scope.now) room items.now) result }
 {
     if room == 0 {
@@ -51,7 +67,7 @@ fn array(alloc: Global, room: u32, scope: &Table, items: &[Item]) -> Result<Valu
 }
 
 #[cycle(value)]
-fn all_items(alloc: Global, room: u32, scope: &Table, items: &[Item]) -> Result<Value, Halt>
+fn all_items(alloc: Global, room: u32, scope: &Scope<'_>, items: &[Item]) -> Result<Value, Halt>
     ensures { Is (spec.items_of (look scope.now) (spec.array_value (look scope.now) room) [] items.now) result }
 {
     let mut pairs = List::new(alloc);
@@ -63,7 +79,7 @@ fn all_items(alloc: Global, room: u32, scope: &Table, items: &[Item]) -> Result<
 }
 
 #[cycle(value)]
-fn item(alloc: Global, room: u32, scope: &Table, item: &Item) -> Result<Pair, Halt>
+fn item(alloc: Global, room: u32, scope: &Scope<'_>, item: &Item) -> Result<Pair, Halt>
     ensures { Is (spec.item_value (look scope.now) room item.now) result }
 {
     let value = sum(alloc, room, scope, item.value.as_slice())?;
@@ -84,11 +100,10 @@ fn text_value(alloc: Global, bytes: &[u8]) -> Result<Value, Halt>
 }
 
 // A copy of what a variable is set to.
-#[tactic(auto, using(crate::proofs::Tables::look_is))]
-fn variable(alloc: Global, scope: &Table, key: &[u8]) -> Result<Value, Halt>
+fn variable(alloc: Global, scope: &Scope<'_>, key: &[u8]) -> Result<Value, Halt>
     ensures { Is (spec.known (look scope.now key.now)) result }
 {
-    match scope.get(key) {
+    match value_in(scope, key) {
         Some(value) => Ok(value.copy(alloc)?),
         None => Err(Halt::Wrong(Wrong::UnknownVariable)),
     }

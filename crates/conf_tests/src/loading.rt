@@ -1,9 +1,12 @@
 //! Configurations that are loaded, and the first fault of those that are refused.
+ghost use Rattle.settings.specs.InForm.{IsInForm};
+
+use conditions::RegexMaker;
 use conf_eval::{LoadError, MAX_TEXTS, laws, load};
-use conf_value::{Config, Truth};
+use conf_value::Config;
 use lt_bytes::{NoMemory, Text, decimal};
 use lt_world::MemTexts;
-use settings::used;
+use settings::global_settings;
 use std::alloc::Global;
 use std::test::Fail;
 
@@ -15,7 +18,8 @@ const FIRST: &[u8] = b"n=999999999999999999 half=n+n+n+n+n deep=@1&\n";
 
 /// Statements that are wrong, each behind the number of its fault.
 const STATEMENTS: &[u8] = b"\
-3|$HTTP[\"url\"]==\"x\"{x=no}~4|n=1~5|x=no~6|x=1+\"a\"~7|x=half+half~8|server.tag=1~9|server.port=0~\
+3|$HTTP[\"x\"]==\"x\"{x=no}~4|n=1~5|x=no~6|x=1+\"a\"~7|x=half+half~8|server.tag=1~\
+9|$HTTP[\"remote-ip\"]==\"10.0.0.0/33\"{x=no}~10|url.rewrite=(\"(\"=>\"a\")~\
 11|include \"no\"~12|include \"b\"~17|x=(deep)";
 
 /// Lines that no text has, in the same way.
@@ -53,7 +57,7 @@ ab-abc 80 1048576 100|*x=\"a\" include\"b\" x+=\"c\" server.tag+=x|x+=\"b\" serv
 lighttpd 1 4194304 1|*server.port=1 server.max-request-size=0 server.max-keep-alive-requests=0~\
 lighttpd 4096 4194304 4096|*server.port=4096 server.max-request-size=4096 server.max-keep-alive-requests=4096~\
 lighttpd 4097 4194304 4097|*server.port=4097 server.max-request-size=4097 server.max-keep-alive-requests=4097~\
-lighttpd 80 1048576 100, foo.bar 1 1, url.rewrite-once 0 4|*include\"b\"\nurl.rewrite=1|foo.bar=1";
+lighttpd 80 1048576 100, foo.bar 1 1, fastcgi.balance 0 4|*include\"b\"\nfastcgi.balance=\"fair\"|foo.bar=1";
 
 // Adds one byte so many times.
 fn fill(text: &mut Text, byte: u8, count: u64) -> Result<(), NoMemory> {
@@ -93,12 +97,10 @@ fn show_number(out: &mut Text, number: u64) -> Result<(), NoMemory> {
 }
 
 // Adds what is set.
-fn show_settings(out: &mut Text, config: &Config) -> Result<(), NoMemory> {
-    let truths = [Truth::True];
-    if config.blocks.len() != truths.len() {
-        return Ok(());
-    }
-    let settings = used(config, &truths);
+fn show_settings(out: &mut Text, config: &Config) -> Result<(), NoMemory>
+    requires form { IsInForm config.now }
+{
+    let settings = global_settings(config);
     out.push_all(settings.server_tag)?;
     show_number(out, settings.server_port)?;
     show_number(out, settings.server_max_request_size)?;
@@ -108,7 +110,7 @@ fn show_settings(out: &mut Text, config: &Config) -> Result<(), NoMemory> {
 // What comes of loading the text `a`: what is set and the warnings, or the number of the fault and its place.
 fn outcome(alloc: Global, texts: &mut MemTexts) -> Result<Text, NoMemory> {
     let mut out = Text::new(alloc);
-    match load(alloc, b"a", texts) {
+    match load(alloc, b"a", texts, &mut RegexMaker::new(alloc)) {
         Ok(loaded) => {
             show_settings(&mut out, &loaded.config)?;
             for warning in loaded.config.warnings.as_slice() {

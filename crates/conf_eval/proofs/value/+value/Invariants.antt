@@ -1,6 +1,6 @@
 use Rattle.std.proofs.Common.{◌≡◌, drop}
 use Rattle.conf_eval.specs.Values as spec
-use Rattle.conf_eval.specs.Global.{look}
+use Rattle.conf_eval.specs.Kept.{look}
 use Rattle.conf_eval.proofs.value.+value.Given as goal
 
 -- What is left, joined to the value so far, comes to what the whole comes to.
