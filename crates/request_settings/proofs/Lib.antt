@@ -1,0 +1,5 @@
+mod LastTrue
+mod Ruling
+mod Adding
+pub mod Valued
+pub mod Lending

@@ -1,0 +1,4 @@
+pub mod Attributes
+pub mod Values
+pub mod Lists
+pub mod Counted
