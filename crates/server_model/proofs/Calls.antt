@@ -16,7 +16,7 @@ own_same client c calls is = grind (arith, nat_tests, is)
 pub own_other : (client : ℕ) (c : Call) (calls : List Call) → c.owner.conn ≢ client → own_calls client (c ∷ calls) ≡ own_calls client calls
 own_other client c calls apart = grind (arith, nat_tests, apart)
 
-same_owner : (owner : Owner) → is_owner owner owner ≡ true
+pub same_owner : (owner : Owner) → is_owner owner owner ≡ true
 same_owner owner = grind (arith, nat_tests)
 
 pub other_owner : (owner : Owner) (client k : ℕ) → owner.request ≢ k → is_owner owner (record { conn = client; request = k }) ≡ false

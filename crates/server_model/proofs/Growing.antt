@@ -9,7 +9,7 @@ use Rattle.lt_world.specs.Trace.{Act, Accepted, Readable, Writable, Read, ReadEn
 use Rattle.server_model.specs.Settings.{settings_of, limit_for}
 use Rattle.server_model.specs.Request.{Head, Request, Unfinished, Refused, Open, Declined, Complete, Limits, request_of, rest_of, is_complete, requests_within}
 use Rattle.server_model.specs.World.{World, owner_at, has_failed_call, with_call}
-use Rattle.server_model.specs.Plan.{Sought, sought_by, sought, places_of, outcome, is_served, finds_by, finds_at, opens_by, calls_of}
+use Rattle.server_model.specs.Plan.{Basis, course, basis_of, calls_in, calls_of}
 use Rattle.server_model.specs.Reply.{continue_of, planned_reply, reply, replies}
 use Rattle.server_model.specs.Stream.{IsPrefix, is_followed, joined, Passed, replies_to, stream_of}
 use Rattle.server_model.specs.Client.{stream}
@@ -140,27 +140,19 @@ module _ (world : World) (made : FileCall) (k j : ℕ) (failed : Bool) (apart : 
   failed_other what nth = unlogged what (owner_at world j) nth (record { kind = made; owner = owner_at world k; failed = failed }) world.calls
       (ap (λ t. is_kind made what && t) (other_owner (owner_at world k) world.client j apart) ∙ and_false (is_kind made what))
 
-  sought_other : (n : ℕ) (places : List (List ℕ)) → sought (with_call made k failed world) j n places ≡ sought world j n places
-  sought_other n [] = refl
-  sought_other n (place ∷ places) = (λ i. sought_by (failed_other call.Find n i) (world.tree place) (sought_other (n + 1) places i))
-
-  finds_other : (n : ℕ) (places : List (List ℕ)) → finds_at (with_call made k failed world) j n places ≡ finds_at world j n places
-  finds_other n [] = refl
-  finds_other n (place ∷ places) = (λ i. finds_by (failed_other call.Find n i) (world.tree place) (finds_other (n + 1) places i))
+  basis_other : (head : Head) → basis_of (with_call made k failed world) j head ≡ basis_of world j head
+  basis_other head = (λ i. record { blocks = world.site.blocks; arrival = world.side.arrival; head = head; tree = world.tree; find_fails = λ n. failed_other call.Find n i; open_fails = failed_other call.Open 0 i })
 
   -- a call for another request
   pub calls_other : (head : Head) (what : FileCall) → calls_of (with_call made k failed world) j head what ≡ calls_of world j head what
-  calls_other head call.Find = finds_other 0 (places_of (settings_of world (Some head)) head)
-  calls_other head call.Open = ap (λ (s : Sought). opens_by s (is_served head.method)) (sought_other 0 (places_of (settings_of world (Some head)) head))
-  calls_other head call.Read = refl
+  calls_other head what = ap (λ (b : Basis). calls_in (course b) what) (basis_other head)
 
   pub reply_other : (r : Request) → reply (with_call made k failed world) j r ≡ reply world j r
   reply_other Unfinished = refl
   reply_other (Refused status) = refl
   reply_other (Open head) = refl
   reply_other (Declined status head) = refl
-  reply_other (Complete head content) =
-      (λ i. planned_reply j head (continue_of (limit_for world) head) (outcome (settings_of world (Some head)) (sought_other 0 (places_of (settings_of world (Some head)) head) i) (failed_other call.Open 0 i) (is_served head.method)))
+  reply_other (Complete head content) = ap (λ (b : Basis). planned_reply j head (continue_of (limit_for world) head) (course b).outcome) (basis_other head)
 
 -- a call that comes as its request is planned
 pub planned_stays : (world : World) (what : FileCall) (k : ℕ) (failed : Bool) (input output : List ℕ) → Passed k (replies_to world input) output → IsPrefix output (stream_of (with_call what k failed world) input)

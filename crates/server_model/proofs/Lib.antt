@@ -5,6 +5,8 @@ pub mod Bodies
 pub mod Replying
 pub mod Calls
 pub mod Growing
+pub mod Courses
+pub mod Tried
 pub mod Owned
 pub mod FileSteps
 pub mod Tables
@@ -33,3 +35,4 @@ pub mod Rows
 pub mod Limited
 pub mod Refusals
 pub mod Valued
+pub mod Bounded

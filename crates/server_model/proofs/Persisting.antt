@@ -5,12 +5,11 @@ use Rattle.std.proofs.lemmas.Bool.{false≢true}
 use Rattle.std.proofs.lemmas.Bool.Decides.{nat_tests}
 use Rattle.http_head.specs.Options.{closes}
 use Rattle.http_head.proofs.OptionLemmas.{options_so}
-use Rattle.server_model.specs.Settings.{Settings, settings_of, limit_for, is_reached, is_last_request}
+use Rattle.server_model.specs.Settings.{limit_for, is_reached, is_last_request}
 use Rattle.server_model.specs.Request.{Head, Request, Unfinished, Refused, Open, Declined, Complete, Limits, request_of, rest_of}
-use Rattle.server_model.specs.World.{World, has_failed_call}
-use Rattle.server_model.specs.Plan.{Sought, Fault, Nowhere, Found, sought, places_of, outcome, is_served, plan}
+use Rattle.server_model.specs.World.{World}
+use Rattle.server_model.specs.Plan.{plan}
 use Rattle.server_model.specs.Reply.{reply}
-use Rattle.lt_world.specs.declared.files.FileCall.TheVariants as call
 use Rattle.server_model.specs.Stream.{is_followed, Passed, left_after, replies_to}
 use Rattle.server_model.proofs.Requests.{complete_front, front_read}
 use Rattle.server_model.proofs.Replying.{Answered, by_bytes, passed_followed}
@@ -23,20 +22,9 @@ says_so limits bytes head content is =
     let h = front_read bytes head f.0 f.1 in
     (options_so (take h.0 bytes) head h.1).0
 
--- a plan comes with the settings of its request
-outcome_settings : (settings : Settings) (told : Sought) (opens served : Bool) → (outcome settings told opens served).settings ≡ settings
-outcome_settings settings Fault opens served = refl
-outcome_settings settings Nowhere opens served = refl
-outcome_settings settings (Found bytes) opens false = refl
-outcome_settings settings (Found bytes) true true = refl
-outcome_settings settings (Found bytes) false true = refl
-
-pub plan_settings : (world : World) (k : ℕ) (head : Head) → (plan world k head).settings ≡ settings_of world (Some head)
-plan_settings world k head = outcome_settings (settings_of world (Some head)) (sought world k 0 (places_of (settings_of world (Some head)) head)) (has_failed_call world k call.Open 0) (is_served head.method)
-
 -- the reply to a request is the last exactly where its head says so, or no further request may come
-pub last_is : (world : World) (k : ℕ) (bytes : List ℕ) (head : Head) (content : List ℕ) → request_of (limit_for world) bytes ≡ Complete head content → (reply world k (Complete head content)).last ≡ (closes head.minor head.fields || is_reached (settings_of world (Some head)).request_limit k)
-last_is world k bytes head content is = (λ i. says_so (limit_for world) bytes head content is i || is_reached (plan_settings world k head i).request_limit k)
+pub last_is : (world : World) (k : ℕ) (bytes : List ℕ) (head : Head) (content : List ℕ) → request_of (limit_for world) bytes ≡ Complete head content → (reply world k (Complete head content)).last ≡ (closes head.minor head.fields || is_reached (plan world k head).settings.request_limit k)
+last_is world k bytes head content is = (λ i. says_so (limit_for world) bytes head content is i || is_reached (plan world k head).settings.request_limit k)
 
 -- ---- how many replies
 
@@ -48,28 +36,28 @@ not_last : (last : Bool) → not last ≡ true → last ≡ false
 not_last true is = absurd (false≢true is)
 not_last false is = refl
 
--- a reply that is followed isn't that to the last request, by its settings
-followed_unreached : (world : World) (k : ℕ) (head : Head) (content : List ℕ) → is_followed (reply world k (Complete head content)) ≡ true → is_reached (settings_of world (Some head)).request_limit k ≡ false
+-- a reply that is followed isn't that to the last request, by the settings of its plan
+followed_unreached : (world : World) (k : ℕ) (head : Head) (content : List ℕ) → is_followed (reply world k (Complete head content)) ≡ true → is_reached (plan world k head).settings.request_limit k ≡ false
 followed_unreached world k head content is =
     let limit : ℕ = (plan world k head).settings.request_limit in
-    ap (λ (s : Settings). is_reached s.request_limit k) (sym (plan_settings world k head)) ∙ or_false head.close (is_reached limit k) (not_last (is_last_request limit k head) is)
+    or_false head.close (is_reached limit k) (not_last (is_last_request limit k head) is)
 
 pub passed_unreached : (world : World) (input before : List ℕ) (k j : ℕ) (head : Head) (content : List ℕ) → Passed k (replies_to world input) before → j < k
-    → request_of (limit_for world) (left_after (limit_for world) j input) ≡ Complete head content → is_reached (settings_of world (Some head)).request_limit j ≡ false
+    → request_of (limit_for world) (left_after (limit_for world) j input) ≡ Complete head content → is_reached (plan world j head).settings.request_limit j ≡ false
 passed_unreached world input before k j head content passed below is = followed_unreached world j head content (ap (λ (r : Request). is_followed (reply world j r)) (sym is) ∙ passed_followed world input k before passed j below)
 
 -- so fewer come than a limit which no request's own passes
-module _ (world : World) (most : ℕ) (within : (head : Head) → (settings_of world (Some head)).request_limit ≤ most) where
+module _ (world : World) (most : ℕ) (within : (j : ℕ) (head : Head) → (plan world j head).settings.request_limit ≤ most) where
   followed_below : (k : ℕ) (r : Request) → is_followed (reply world k r) ≡ true → k + 1 < most
   followed_below k Unfinished is = absurd (false≢true is)
   followed_below k (Refused status) is = absurd (false≢true is)
   followed_below k (Open head) is = absurd (false≢true is)
   followed_below k (Declined status head) is = absurd (false≢true is)
   followed_below k (Complete head content) is =
-      let limit : ℕ = (settings_of world (Some head)).request_limit in
+      let limit : ℕ = (plan world k head).settings.request_limit in
       let unreached : is_reached limit k ≡ false = followed_unreached world k head content is in
       let below : nat_le limit (k + 1) ≡ false = or_false (nat_le 4294967295 k) (nat_le limit (k + 1)) unreached in
-      above limit (within head) below
+      above limit (within k head) below
     where
       above : (limit : ℕ) → limit ≤ most → nat_le limit (k + 1) ≡ false → k + 1 < most
       above limit at_most below = grind (arith, nat_tests, at_most, below)

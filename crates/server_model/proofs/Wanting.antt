@@ -14,7 +14,7 @@ use Rattle.http_reply.specs.FieldLines.{FieldLines}
 use Rattle.server_model.specs.Settings.{settings_of, limit_for, is_last_request}
 use Rattle.server_model.specs.Request.{Head, Request, Unfinished, Refused, Open, Declined, Complete, Front, NoHead, BadHead, HasHead, front_of, is_headed, has_head, is_open_body, is_complete, bodied, begin_of, headed, request_by, request_of, Limits}
 use Rattle.server_model.specs.World.{World}
-use Rattle.server_model.specs.Plan.{Content, Nothing, Bytes, Outcome, error_fields, is_head, plan}
+use Rattle.server_model.specs.Plan.{Content, Nothing, Bytes, Outcome, is_head, plan}
 use Rattle.server_model.specs.Reply.{Reply, error_bytes, bytes_by, final_bytes, refusal_bytes, continue_of, reply}
 use Rattle.server_model.specs.Stream.{is_followed, Place, place, Passed, left_after, replies_to}
 use Rattle.server_model.specs.Client.{input_limit, has_ended, current, current_request, request_at, is_end}
@@ -54,12 +54,12 @@ more_behind : (first rest : List ℕ) → 0 < length rest → length first < len
 more_behind first rest some = omega (arith, some, length-append first rest)
 
 -- it says more than what is told first
-more_told : (world : World) (k : ℕ) (r : Request) → has_head r ≡ true → is_open_body r ≡ false → length (told_first (limit_for world) r) < length (reply world k r).bytes
+pub more_told : (world : World) (k : ℕ) (r : Request) → has_head r ≡ true → is_open_body r ≡ false → length (told_first (limit_for world) r) < length (reply world k r).bytes
 more_told world k Unfinished headed shut = absurd (cc (headed))
-more_told world k (Refused status) headed shut = let n = some_error (settings_of world None).tag 1 status (error_fields status) true false in omega (arith, n)
+more_told world k (Refused status) headed shut = let n = some_error (settings_of world None).tag 1 status [] true false in omega (arith, n)
 more_told world k (Open head) headed shut = absurd (cc (shut))
 more_told world k (Declined status head) headed shut =
-    more_behind (continue_of (limit_for world) head) (refusal_bytes (settings_of world (Some head)) head.minor status (is_head head.method)) (some_error (settings_of world (Some head)).tag head.minor status (error_fields status) true (is_head head.method))
+    more_behind (continue_of (limit_for world) head) (refusal_bytes (settings_of world (Some head)) head.minor status (is_head head.method)) (some_error (settings_of world (Some head)).tag head.minor status [] true (is_head head.method))
 more_told world k (Complete head content) headed shut =
     let o = plan world k head in
     more_behind (continue_of (limit_for world) head) (final_bytes head (is_last_request o.settings.request_limit k head) o) (some_final head (is_last_request o.settings.request_limit k head) o)

@@ -2,8 +2,11 @@ pub mod Site
 pub mod Request
 pub mod Deeds
 pub mod World
+pub mod Attributes
 pub mod Settings
+pub mod Rewrites
 pub mod Plan
+pub mod Made
 pub mod Reply
 pub mod Stream
 pub mod Client
@@ -18,3 +21,4 @@ pub mod Turns
 pub mod Settling
 pub mod Runs
 pub mod Causes
+pub mod Comparing

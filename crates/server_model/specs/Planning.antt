@@ -1,13 +1,14 @@
 -- What the plan of one request does to the files, and what it plans.
-use Rattle.std.specs.Prelude.{◌≡◌, ◌≢◌, ℕ, ◌≤◌, List, length, Option, Some, None}
+use Rattle.std.specs.Prelude.{◌≡◌, ◌≢◌, ℕ, ◌+◌, ◌≤◌, List, [], length, take, drop, Option, Some, None}
+use Rattle.http_reply.specs.FieldLines.{FieldLines}
 use Rattle.lt_world.specs.declared.files.FileCall.{FileCall}
 use Rattle.lt_world.specs.Disk.{Disk}
 use Rattle.server_model.specs.Site.{Site}
 use Rattle.server_model.specs.Request.{Head, Request}
 use Rattle.server_model.specs.World.{Arrival, Side, World, world_at, call_count}
-use Rattle.server_model.specs.Plan.{Outcome, error_outcome, file_outcome, plan, calls_of}
-use Rattle.server_model.specs.Settings.{settings_at}
-use Rattle.server_model.specs.Reply.{reply}
+use Rattle.server_model.specs.Plan.{Content, Nothing, Bytes, Outcome, plan, calls_of}
+use Rattle.server_model.specs.Settings.{Settings}
+use Rattle.server_model.specs.Reply.{body_for, reply}
 use Rattle.server_model.specs.Files.{FileStep}
 
 -- no call was made for request k
@@ -31,17 +32,30 @@ abbrev pub PlansTo : Outcome → Site → Option Arrival → ℕ → ℕ → Hea
 PlansTo o site arrival client k head before after = (side : Side) → side.arrival ≡ arrival
     → Unasked (world_at site before client side) k → plan (world_at site after client side) k head ≡ o
 
--- an error is planned, and no file is opened
-pub record PlansError (status : ℕ) (site : Site) (arrival : Option Arrival) (client k : ℕ) (head : Head) (before after : Disk) : Type 0 where
-  pub calls : CallsFor site arrival client k head None before after
+-- this is planned, by just the calls that its plan names, and this file is open behind them
+pub record Plans (o : Outcome) (file : Option ℕ) (site : Site) (arrival : Option Arrival) (client k : ℕ) (head : Head) (before after : Disk) : Type 0 where
+  pub calls : CallsFor site arrival client k head file before after
   pub whole : CallsWhole site arrival client k head before after
-  pub plans : PlansTo (error_outcome (settings_at site arrival (Some head)) status) site arrival client k head before after
+  pub plans : PlansTo o site arrival client k head before after
 
--- the bytes of this opened file are planned
-pub record PlansFile (file size : ℕ) (site : Site) (arrival : Option Arrival) (client k : ℕ) (head : Head) (before after : Disk) : Type 0 where
-  pub calls : CallsFor site arrival client k head (Some file) before after
-  pub whole : CallsWhole site arrival client k head before after
+-- with these settings, this status and these fields
+abbrev pub outcome_of : Settings → ℕ → FieldLines → Content → Outcome
+outcome_of settings status fields content = record { settings = settings; status = status; fields = fields; content = content }
+
+-- a status in words is planned, and no file is open
+abbrev pub PlansError : Settings → ℕ → FieldLines → Site → Option Arrival → ℕ → ℕ → Head → Disk → Disk → Type 0
+PlansError settings status fields site arrival client k head before after = Plans (outcome_of settings status fields Nothing) None site arrival client k head before after
+
+-- so many bytes of this opened file are planned, from the byte with this number on
+pub record PlansFile (file start len : ℕ) (settings : Settings) (status : ℕ) (fields : FieldLines) (site : Site) (arrival : Option Arrival) (client k : ℕ) (head : Head) (before after : Disk) : Type 0 where
   pub bytes : List ℕ
   pub opened : after.table file ≡ Some bytes
-  pub has_size : length bytes ≡ size
-  pub plans : PlansTo (file_outcome (settings_at site arrival (Some head)) bytes) site arrival client k head before after
+  pub within : start + len ≤ length bytes
+  pub plans : Plans (outcome_of settings status fields (Bytes (take len (drop start bytes)))) (Some file) site arrival client k head before after
+
+-- so many bytes are planned of which none is sent, and no file is open any more
+pub record PlansUnsent (len : ℕ) (settings : Settings) (status : ℕ) (fields : FieldLines) (site : Site) (arrival : Option Arrival) (client k : ℕ) (head : Head) (before after : Disk) : Type 0 where
+  pub bytes : List ℕ
+  pub has_length : length bytes ≡ len
+  pub unsent : body_for head.method bytes ≡ []
+  pub plans : Plans (outcome_of settings status fields (Bytes bytes)) None site arrival client k head before after

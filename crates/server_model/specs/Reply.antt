@@ -7,7 +7,7 @@ use Rattle.http_reply.specs.Replies.{HeadParts, reply_head, error_reply}
 use Rattle.server_model.specs.Settings.{Settings, settings_of, limit_for, is_last_request}
 use Rattle.server_model.specs.Request.{Head, Request, Unfinished, Refused, Open, Declined, Complete, Limits}
 use Rattle.server_model.specs.World.{World}
-use Rattle.server_model.specs.Plan.{Content, Nothing, Bytes, Outcome, error_fields, is_head, plan}
+use Rattle.server_model.specs.Plan.{Content, Nothing, Bytes, Outcome, is_head, plan}
 
 pub data Extent : Type 0 where
   -- nothing further, and its request isn't whole
@@ -24,11 +24,11 @@ pub record Reply : Type 0 where
 abbrev pub head_parts : List ℕ → ℕ → ℕ → Option ℕ → Bool → HeadParts
 head_parts tag minor status length last = record { minor = minor; status = status; length = length; last = last; keep = not last && minor == 0; tag = tag }
 
--- an error, with its body unless only the head was asked for
+-- a status in words, with its body unless only the head was asked for
 abbrev pub error_bytes : List ℕ → ℕ → ℕ → FieldLines → Bool → Bool → List ℕ
 error_bytes tag minor status fields last head_only = error_reply (head_parts tag minor status None last) fields head_only
 
--- the head before so many bytes
+-- the head before so many bytes of a file
 abbrev pub content_head : List ℕ → ℕ → ℕ → FieldLines → ℕ → Bool → List ℕ
 content_head tag minor status fields size last = reply_head (head_parts tag minor status (Some size) last) fields
 
@@ -64,7 +64,7 @@ final_bytes head last o = bytes_by head last o o.content
 
 -- an error that is planned without a request's body, or without its head
 abbrev pub refusal_bytes : Settings → ℕ → ℕ → Bool → List ℕ
-refusal_bytes settings minor status head_only = error_bytes settings.tag minor status (error_fields status) true head_only
+refusal_bytes settings minor status head_only = error_bytes settings.tag minor status [] true head_only
 
 -- as is planned for request k, behind what its client was told first
 abbrev pub planned_reply : ℕ → Head → List ℕ → Outcome → Reply

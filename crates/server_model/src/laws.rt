@@ -17,9 +17,14 @@ ghost use Rattle.lt_http_body.specs.declared.body.BodyRefusal.TheVariants as ref
 ghost use Rattle.lt_http_body.specs.Standings.{answer_from};
 ghost use Rattle.server_model.specs.Site.{Site};
 ghost use Rattle.server_model.specs.Request.{Head, Request, Complete, Open, Declined, Refused, HasHead, front_of, headed, request_of, rest_of, is_complete, Limits};
-ghost use Rattle.settings.specs.Used.{values_of};
+ghost use Rattle.conf_value.specs.declared.block.Block.{Block};
+ghost use Rattle.conditions.specs.Attributes.{Attributes};
+ghost use Rattle.cond_cache.specs.Truths.{truth_of};
+ghost use Rattle.settings.specs.Used.{values_where};
 ghost use Rattle.server_model.specs.World.{World, Arrival, is_arrival, world_of, with_call};
-ghost use Rattle.server_model.specs.Settings.{settings_at, settings_of, settings_from, truths_at, limit_for, is_reached};
+ghost use Rattle.server_model.specs.Settings.{settings_on, settings_at, settings_from, truths_at, limit_for, is_reached};
+ghost use Rattle.server_model.specs.Plan.{plan};
+ghost use Rattle.server_model.specs.Comparing.{comparisons, comparison_limit, passes_of, passes_between};
 ghost use Rattle.server_model.specs.Reply.{Reply, reply, is_accepted, continue_of};
 ghost use Rattle.server_model.specs.Stream.{IsPrefix, is_followed, joined, Passed, left_after, replies_to, stream_of};
 ghost use Rattle.server_model.specs.Deeds.{Deed, Ours, own, ours, told, deeds_in, AreDeeds};
@@ -137,26 +142,38 @@ pub fn replies_in_order()
 /// What holds for a request beside its plan.
 pub fn settings_are_values()
     // The values of the configuration's keys, by the truths of its blocks.
-    ensures values { (site : Site) (arrival : Option Arrival) (head : Option Head) → settings_at site arrival head ≡ settings_from (values_of site.blocks (truths_at site arrival head)) }
+    ensures values { (site : Site) (arrival : Option Arrival) (head : Option Head) → settings_at site arrival head ≡ settings_from (values_where site.blocks (truths_at site arrival head)) }
+    ensures anew { (blocks : List Block) (a : Attributes) → settings_on blocks a ≡ settings_from (values_where blocks (truth_of blocks a)) }
 
     // Whatever is configured, a connection may send one request at least, and a body has a limit from 1 KiB to 4 MiB.
     ensures requests { (site : Site) (arrival : Option Arrival) (head : Option Head) → 1 ≤ (settings_at site arrival head).request_limit }
     ensures body { (site : Site) (arrival : Option Arrival) (head : Option Head) → (1024 ≤ (settings_at site arrival head).body_limit) × ((settings_at site arrival head).body_limit ≤ 4194304) }
+    ensures requests_anew { (blocks : List Block) (a : Attributes) → 1 ≤ (settings_on blocks a).request_limit }
+    ensures body_anew { (blocks : List Block) (a : Attributes) → (1024 ≤ (settings_on blocks a).body_limit) × ((settings_on blocks a).body_limit ≤ 4194304) }
 {}
 
 /// Which reply is the last of its connection.
 pub fn connections_end()
-    // The reply to a request is the last exactly where its head closes the connection, or no further request may come by its settings.
-    ensures asked { (world : World) (k : ℕ) (bytes : List ℕ) (head : Head) (content : List ℕ) → request_of (limit_for world) bytes ≡ Complete head content → (reply world k (Complete head content)).last ≡ (closes head.minor head.fields || is_reached (settings_of world (Some head)).request_limit k) }
+    // The reply to a request is the last exactly where its head closes the connection, or no further request may come by the settings of its plan.
+    ensures asked { (world : World) (k : ℕ) (bytes : List ℕ) (head : Head) (content : List ℕ) → request_of (limit_for world) bytes ≡ Complete head content → (reply world k (Complete head content)).last ≡ (closes head.minor head.fields || is_reached (plan world k head).settings.request_limit k) }
     ensures declined { (world : World) (k status : ℕ) (head : Head) → (reply world k (Declined status head)).last ≡ true }
     ensures refused { (world : World) (k status : ℕ) → (reply world k (Refused status)).last ≡ true }
 
-    // No reply that another follows is that to the last request by its settings.
+    // No reply that another follows is that to the last request by the settings of its plan.
     ensures unreached { (world : World) (input before : List ℕ) (k j : ℕ) (head : Head) (content : List ℕ) → Passed k (replies_to world input) before → j < k
-        → request_of (limit_for world) (left_after (limit_for world) j input) ≡ Complete head content → is_reached (settings_of world (Some head)).request_limit j ≡ false }
+        → request_of (limit_for world) (left_after (limit_for world) j input) ≡ Complete head content → is_reached (plan world j head).settings.request_limit j ≡ false }
 
     // So fewer replies are followed than the greatest limit of a request.
-    ensures limit { (world : World) (input before : List ℕ) (k most : ℕ) → 0 < most → ((head : Head) → (settings_of world (Some head)).request_limit ≤ most) → Passed k (replies_to world input) before → k < most }
+    ensures limit { (world : World) (input before : List ℕ) (k most : ℕ) → 0 < most → ((j : ℕ) (head : Head) → (plan world j head).settings.request_limit ≤ most) → Passed k (replies_to world input) before → k < most }
+{}
+
+/// How many conditions a request has compared, at most.
+pub fn comparisons_are_bounded()
+    // However its target is rewritten.
+    ensures within { (world : World) (request : Request) → comparisons world.site (passes_of world request) ≤ comparison_limit world.site }
+
+    // The same for the request that is planned between two times, if one is.
+    ensures between { (was is : World) (past now : List Act) → comparisons is.site (passes_between was past is now) ≤ comparison_limit is.site }
 {}
 
 /// No more clients are open at once than the limit, in a run that began with no more.
