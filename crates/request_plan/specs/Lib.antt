@@ -1,4 +1,5 @@
 pub mod Form
 pub mod Lent
+pub mod Kept
 pub mod Planned
-pub mod Served
+pub mod Finding

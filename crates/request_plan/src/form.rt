@@ -1,7 +1,7 @@
 //! What a request settles of its reply's form.
 ghost use Rattle.std.specs.Prelude.{◌≡◌, option_map};
 ghost use Rattle.server_model.specs.Settings.{is_last_request, is_reached};
-ghost use Rattle.server_model.specs.Plan.{is_head, is_served};
+ghost use Rattle.server_model.specs.Plan.{is_head};
 ghost use Rattle.request_plan.specs.Form.{form_of, refused_form};
 
 use http_head::Request;
@@ -60,15 +60,8 @@ fn is_reached(number: u32, limit: u64) -> bool
     number >= u32::MAX || u64::from(number) + 1 >= limit
 }
 
-fn is_head(request: &Request) -> bool
+pub(crate) fn is_head(request: &Request) -> bool
     ensures { result ≡ is_head request.now.method }
 {
     request.method.bytes() == b"HEAD".as_slice()
-}
-
-/// A file answers the request's method.
-pub(crate) fn is_served(request: &Request) -> bool
-    ensures { result ≡ is_served request.now.method }
-{
-    request.method.bytes() == b"GET".as_slice() || is_head(request)
 }

@@ -1,117 +1,118 @@
-//! What a request gets: a find at its path, and an open where a file stands there.
-ghost use Rattle.std.specs.Prelude.{◌≡◌, ◌++◌, Some, IfOk};
-ghost use Rattle.lt_world.specs.Disk.{IsFileAt};
-ghost use Rattle.request_plan.specs.Lent.{lent, came};
-ghost use Rattle.request_plan.specs.Planned.{Plans, PlansBy, PlansWithin, OpensAs};
-ghost use Rattle.server_model.specs.Settings.{settings_at};
-ghost use Rattle.server_model.specs.Site.{Site};
-ghost use Rattle.server_model.specs.World as world;
+//! What a request gets: it is rewritten, and its target leads to a directory or a file.
+ghost use Rattle.std.specs.Prelude.{◌≡◌, ◌+◌, ◌*◌, ◌≤◌, Ok, Some, IfOk};
+ghost use Rattle.cond_cache.specs.Kept.{AreRight, conditions_in};
+ghost use Rattle.file_reply.specs.Refusals.{plain};
+ghost use Rattle.server_model.specs.Attributes.{attributes_at};
+ghost use Rattle.server_model.specs.Comparing.{comparisons};
+ghost use Rattle.server_model.specs.Rewrites.{rewriting};
+ghost use Rattle.server_model.specs.Settings.{settings_on};
+ghost use Rattle.request_plan.specs.Lent.{came, lent, wanted};
+ghost use Rattle.request_plan.specs.Kept.{IsRightFor, asked_of};
+ghost use Rattle.request_plan.specs.Planned.{PlansBy, PlansWithin, SendsTo};
+ghost use Rattle.request_plan.specs.Finding.{IsInWords};
 
-use crate::form::is_served;
-use crate::lending::{Arrival, settings_for};
-use crate::site::Site;
+use crate::chosen::{Chosen, in_words};
+use crate::planner::Planner;
+use conditions::Steps;
+use file_reply::plain;
 use http_head::Request;
+use http_target::Target;
 use lt_bytes::{NoMemory, Text};
-use lt_world::{FileId, Files, Found, Opened, Owner};
-use settings::Settings;
+use lt_world::{Files, Owner};
+use request_settings::{Arrival, attrs_of};
+use rewrite::Rewritten;
 use std::alloc::Global;
+use std::sync::ledger::Ledger;
 
-/// What is planned for a request.
-pub enum Outcome {
-    /// An error reply with this status.
-    Error(u16),
-    /// The bytes of an opened file.
-    File { file: FileId, size: u64 },
-}
-
-/// What is planned for a request, with the settings of its reply.
-pub struct Chosen<'c> {
-    pub settings: Settings<'c>,
-    pub outcome: Outcome,
-}
-
-/// Asks the files what stands at the path of a request of a client that came so, below the document root of its settings.
-/// A file that it opened is in the answer; without memory none is open.
-pub fn plan<'c, F: Files>(
-    site: &Site<'c>,
-    arrival: Arrival,
-    request: &Request,
-    files: &mut F,
-    owner: Owner,
-) -> Result<Chosen<'c>, NoMemory>
-    ensures settings { IfOk result (λ chosen. lent chosen.settings ≡ settings_at site.now (Some (came arrival)) (Some request.now)) }
-    ensures plans { F.tells → Plans result site.now (Some (came arrival)) owner.conn owner.request request.now (F.disk files.old) (F.disk files.new) }
-    ensures within { IfOk result (λ chosen. PlansWithin chosen.outcome) }
-    ensures reads { F.reads files.new ≡ F.reads files.old }
-    ensures later { F.later files.old files.new }
+fn copy_of(alloc: Global, target: &Target) -> Result<Target, NoMemory>
+    ensures { IfOk result (λ copy. copy ≡ target.now) }
 {
-    let settings = settings_for(site, arrival, Some(request));
-    match ask(
-        site.alloc,
-        settings.server_document_root,
-        request,
-        files,
-        owner,
-    ) {
-        Ok(outcome) => Ok(Chosen { settings, outcome }),
-        Err(_) => Err(NoMemory),
-    }
+    let raw = Text::from_bytes(alloc, target.raw.bytes())?;
+    let path = Text::from_bytes(alloc, target.path.bytes())?;
+    let query = Text::from_bytes(alloc, target.query.bytes())?;
+    Ok(Target { raw, path, query })
 }
 
-// Asks below this root.
-fn ask<F: Files>(
-    alloc: Global,
-    root: &[u8],
-    request: &Request,
-    files: &mut F,
-    owner: Owner,
-) -> Result<Outcome, NoMemory>
-    ensures plans { (site : Site) (arrival : world.Arrival) → root.now ≡ (settings_at site (Some arrival) (Some request.now)).root → F.tells →
-        PlansBy result site (Some arrival) owner.conn owner.request request.now (F.disk files.old) (F.disk files.new) }
-    ensures within { IfOk result PlansWithin }
-    ensures reads { F.reads files.new ≡ F.reads files.old }
-    ensures later { F.later files.old files.new }
-{
-    let Ok(place) = place_of(alloc, root, request.target.path.bytes()) else {
-        return Err(NoMemory);
-    };
-    match files.find(owner, place.bytes()) {
-        Found::File { size: _, time: _ } => {
-            if !is_served(request) {
-                return Ok(Outcome::Error(405));
-            }
-            open(place.bytes(), files, owner)
+impl<'c> Planner<'c> {
+    /// What is planned for a request of a client that came so. What was found of the conditions since `begin` counts, and
+    /// no condition is compared again for the same attributes.
+    ///
+    /// A file that it opened is in the answer where bytes of it are sent, and else given back; without memory none is
+    /// open.
+    pub fn plan<F: Files, L: Ledger>(
+        &mut self,
+        arrival: Arrival,
+        request: &Request,
+        files: &mut F,
+        owner: Owner,
+        steps: &mut Steps<L>,
+    ) -> Result<Chosen<'c>, NoMemory>
+        requires right { IsRightFor (came arrival) request.now self.old }
+        ensures site { self.new.site ≡ self.old.site }
+        ensures plans { F.tells → PlansBy result self.old.site (Some (came arrival)) owner.conn owner.request request.now (F.disk files.old) (F.disk files.new) }
+        ensures within { IfOk result (λ chosen. PlansWithin chosen.content) }
+        ensures sends { IfOk result (λ chosen. SendsTo request.now.method chosen.content) }
+        ensures compares { steps.new + asked_of self.old
+            ≤ steps.old + comparisons self.old.site (rewriting self.old.site.blocks (Some (came arrival)) request.now).passes + wanted result }
+        ensures reads { F.reads files.new ≡ F.reads files.old }
+        ensures later { F.later files.old files.new }
+    {
+        match self.is_rewritten(arrival, request, steps) {
+            Ok(false) => self.plan_target(arrival, request, &request.target, files, owner, steps),
+            Ok(true) => self.plan_rewritten(arrival, request, files, owner, steps),
+            Err(NoMemory) => Err(NoMemory),
         }
-        Found::Directory => Ok(Outcome::Error(404)),
-        Found::Missing => Ok(Outcome::Error(404)),
-        Found::Failed => Ok(Outcome::Error(500)),
-        Found::NoMemory => Err(NoMemory),
     }
-}
 
-fn open<F: Files>(place: &[u8], files: &mut F, owner: Owner) -> Result<Outcome, NoMemory>
-    requires { F.tells → IsFileAt place.now (F.disk files.old).tree }
-    ensures opens { F.tells → OpensAs result owner place.now (F.disk files.old) (F.disk files.new) }
-    ensures within { IfOk result PlansWithin }
-    ensures reads { F.reads files.new ≡ F.reads files.old }
-    ensures later { F.later files.old files.new }
-{
-    match files.open(owner, place) {
-        Opened::File {
-            file,
-            size,
-            time: _,
-        } => Ok(Outcome::File { file, size }),
-        Opened::Failed => Ok(Outcome::Error(500)),
-        Opened::NoMemory => Err(NoMemory),
+    /// What is planned for a request that is rewritten.
+    fn plan_rewritten<F: Files, L: Ledger>(
+        &mut self,
+        arrival: Arrival,
+        request: &Request,
+        files: &mut F,
+        owner: Owner,
+        steps: &mut Steps<L>,
+    ) -> Result<Chosen<'c>, NoMemory>
+        requires right { IsRightFor (came arrival) request.now self.old }
+        ensures site { self.new.site ≡ self.old.site }
+        ensures plans { F.tells → PlansBy result self.old.site (Some (came arrival)) owner.conn owner.request request.now (F.disk files.old) (F.disk files.new) }
+        ensures within { IfOk result (λ chosen. PlansWithin chosen.content) }
+        ensures sends { IfOk result (λ chosen. SendsTo request.now.method chosen.content) }
+        ensures compares { steps.new + asked_of self.old
+            ≤ steps.old + comparisons self.old.site (rewriting self.old.site.blocks (Some (came arrival)) request.now).passes + wanted result }
+        ensures reads { F.reads files.new ≡ F.reads files.old }
+        ensures later { F.later files.old files.new }
+    {
+        let Ok(mut target) = copy_of(self.alloc, &request.target) else {
+            return Err(NoMemory);
+        };
+        match self.rewrite(arrival, request, &mut target, steps) {
+            Ok(Rewritten::Same) => self.plan_target(arrival, request, &target, files, owner, steps),
+            Ok(Rewritten::New) => self.plan_target(arrival, request, &target, files, owner, steps),
+            Ok(Rewritten::Loop) => self.plan_status(arrival, request, &target, 500, steps),
+            Ok(Rewritten::Bad) => self.plan_status(arrival, request, &target, 400, steps),
+            Err(NoMemory) => Err(NoMemory),
+        }
     }
-}
 
-fn place_of(alloc: Global, root: &[u8], path: &[u8]) -> Result<Text, NoMemory>
-    ensures { IfOk result (λ place. place ≡ root.now ++ path.now) }
-{
-    let mut place = Text::with_capacity(alloc, root.len().saturating_add(path.len()))?;
-    place.push_all(root)?;
-    place.push_all(path)?;
-    Ok(place)
+    /// A status in words, with the settings of the target that was reached.
+    fn plan_status<L: Ledger>(
+        &mut self,
+        arrival: Arrival,
+        request: &Request,
+        target: &Target,
+        status: u16,
+        steps: &mut Steps<L>,
+    ) -> Result<Chosen<'c>, NoMemory>
+        requires right { AreRight self.old.site.blocks (attributes_at (Some (came arrival)) request.now target.now) self.old.places }
+        ensures site { self.new.site ≡ self.old.site }
+        ensures says { IfOk result (IsInWords (settings_on self.old.site.blocks (attributes_at (Some (came arrival)) request.now target.now)) (plain status)) }
+        ensures compares { steps.new + asked_of self.old ≤ steps.old + conditions_in self.old.site.blocks + wanted result }
+    {
+        let attrs = attrs_of(arrival, request, target);
+        match self.settings_on(&attrs, steps) {
+            Ok(now) => Ok(in_words(now.settings, plain(self.alloc, status))),
+            Err(NoMemory) => Err(NoMemory),
+        }
+    }
 }
