@@ -4,30 +4,41 @@ use Rattle.std.proofs.lemmas.Bool.Decides.{nat_tests}
 use Rattle.lt_world.specs.Trace.{Act, Accepted, Readable, Writable, Read, ReadEnd, NotYet, Failed, Wrote, Connect, Close, Entry, said}
 use Rattle.server_model.specs.Held.{Held, IsPlace}
 use Rattle.connection.specs.Connection.{Connected}
-use Rattle.server_core.specs.Offers.{offer_at, WritesAs, AllWriteAs, GainsWrites, OffersOn, OffersIn}
+use Rattle.server_core.specs.Offers.{offer_at, WritesAs, AllAs, GainsAs, GainsWrites, OffersOn, OffersIn}
 use Rattle.server_core.specs.Table.{helds, offers_of, AllAbove, Rising}
 use Rattle.server_core.proofs.Listed.{split}
 
-module _ (Offers : ℕ → ℕ → Type 0) where
-  all_append : (more entries : List Entry) → AllWriteAs Offers more → AllWriteAs Offers entries → AllWriteAs Offers (more ++ entries)
+module _ (Says : ℕ → Act → Type 0) where
+  all_append : (more entries : List Entry) → AllAs Says more → AllAs Says entries → AllAs Says (more ++ entries)
   all_append [] entries one two = two
   all_append (entry ∷ more) entries one two = (one.0, all_append more entries one.1 two)
 
   -- nothing was told
-  pub gains_none : (old now : List Entry) → now ≡ old → GainsWrites Offers old now
-  gains_none old now same = record { more = []; gains = same; each = tt }
+  pub as_none : (old now : List Entry) → now ≡ old → GainsAs Says old now
+  as_none old now same = record { more = []; gains = same; each = tt }
 
   -- one act was
-  pub gains_one : (link : ℕ) (act : Act) (old now : List Entry) → now ≡ said link (act ∷ []) old → WritesAs Offers link act → GainsWrites Offers old now
-  gains_one link act old now told is = record { more = record { link = link; act = act } ∷ []; gains = told; each = (is, tt) }
+  pub as_one : (link : ℕ) (act : Act) (old now : List Entry) → now ≡ said link (act ∷ []) old → Says link act → GainsAs Says old now
+  as_one link act old now told is = record { more = record { link = link; act = act } ∷ []; gains = told; each = (is, tt) }
 
   -- and then more
-  pub gains_both : (old mid now : List Entry) → GainsWrites Offers old mid → GainsWrites Offers mid now → GainsWrites Offers old now
-  gains_both old mid now one two = record {
+  pub as_both : (old mid now : List Entry) → GainsAs Says old mid → GainsAs Says mid now → GainsAs Says old now
+  as_both old mid now one two = record {
     more = two.more ++ one.more;
     gains = two.gains ∙ ap (λ (l : List Entry). two.more ++ l) one.gains ∙ sym (append_assoc two.more one.more old);
     each = all_append two.more one.more two.each one.each;
   }
+
+-- the same of writes
+module _ (Offers : ℕ → ℕ → Type 0) where
+  pub gains_none : (old now : List Entry) → now ≡ old → GainsWrites Offers old now
+  gains_none old now same = as_none (WritesAs Offers) old now same
+
+  pub gains_one : (link : ℕ) (act : Act) (old now : List Entry) → now ≡ said link (act ∷ []) old → WritesAs Offers link act → GainsWrites Offers old now
+  gains_one link act old now told is = as_one (WritesAs Offers) link act old now told is
+
+  pub gains_both : (old mid now : List Entry) → GainsWrites Offers old mid → GainsWrites Offers mid now → GainsWrites Offers old now
+  gains_both old mid now one two = as_both (WritesAs Offers) old mid now one two
 
 by_act : (P Q : ℕ → ℕ → Type 0) → ((l n : ℕ) → P l n → Q l n) → (link : ℕ) (act : Act) → WritesAs P link act → WritesAs Q link act
 by_act P Q gives link (Accepted peer local) is = tt
@@ -41,11 +52,11 @@ by_act P Q gives link (Wrote offered bytes) is = gives link offered is
 by_act P Q gives link (Connect owner to dialled) is = tt
 by_act P Q gives link (Close e) is = tt
 
-all_as : (P Q : ℕ → ℕ → Type 0) → ((l n : ℕ) → P l n → Q l n) → (entries : List Entry) → AllWriteAs P entries → AllWriteAs Q entries
+all_as : (P Q : ℕ → Act → Type 0) → ((l : ℕ) (act : Act) → P l act → Q l act) → (entries : List Entry) → AllAs P entries → AllAs Q entries
 all_as P Q gives [] is = tt
-all_as P Q gives (entry ∷ entries) is = (by_act P Q gives entry.link entry.act is.0, all_as P Q gives entries is.1)
+all_as P Q gives (entry ∷ entries) is = (gives entry.link entry.act is.0, all_as P Q gives entries is.1)
 
-gains_as : (P Q : ℕ → ℕ → Type 0) → ((l n : ℕ) → P l n → Q l n) → (old now : List Entry) → GainsWrites P old now → GainsWrites Q old now
+pub gains_as : (P Q : ℕ → Act → Type 0) → ((l : ℕ) (act : Act) → P l act → Q l act) → (old now : List Entry) → GainsAs P old now → GainsAs Q old now
 gains_as P Q gives old now had = record { more = had.more; gains = had.gains; each = all_as P Q gives had.more had.each }
 
 offer_first : (link n : ℕ) (held : Held) (table : List Held) (offers : List ℕ) → held.link ≡ link → offer_at link (held ∷ table) (n ∷ offers) ≡ n
@@ -54,7 +65,7 @@ offer_first link n held table offers is = grind (arith, nat_tests)
 offer_past : (link n : ℕ) (held : Held) (table : List Held) (offers : List ℕ) → held.link ≢ link → offer_at link (held ∷ table) (n ∷ offers) ≡ offer_at link table offers
 offer_past link n held table offers apart = grind (arith, nat_tests)
 
-above_here : (n : ℕ) (xs ys : List Connected) (c : Connected) → AllAbove n (helds (xs ++ c ∷ ys)) → n < c.held.link
+pub above_here : (n : ℕ) (xs ys : List Connected) (c : Connected) → AllAbove n (helds (xs ++ c ∷ ys)) → n < c.held.link
 above_here n [] ys c above = above.0
 above_here n (x ∷ xs) ys c above = above_here n xs ys c above.1
 
@@ -73,5 +84,5 @@ module _ (link : ℕ) (conns : List Connected) (i : ℕ) (c : Connected) (place 
 
   pub place_offers : (old now : List Entry) → GainsWrites (OffersOn c.held.link c.offers) old now → GainsWrites (OffersIn (helds conns) (offers_of conns)) old now
   place_offers old now had =
-      gains_as (OffersOn c.held.link c.offers) (OffersIn (helds conns) (offers_of conns))
-      (λ (l n : ℕ) on. on.1 ∙ sym offer_is ∙ ap (λ (k : ℕ). offer_at k (helds conns) (offers_of conns)) (sym on.0)) old now had
+      gains_as (WritesAs (OffersOn c.held.link c.offers)) (WritesAs (OffersIn (helds conns) (offers_of conns)))
+      (by_act (OffersOn c.held.link c.offers) (OffersIn (helds conns) (offers_of conns)) (λ (l n : ℕ) on. on.1 ∙ sym offer_is ∙ ap (λ (k : ℕ). offer_at k (helds conns) (offers_of conns)) (sym on.0))) old now had

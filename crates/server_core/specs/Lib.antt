@@ -1,6 +1,10 @@
+pub mod Asks
 pub mod Client
+pub mod Compared
 pub mod Offers
+pub mod Passes
 pub mod Places
+pub mod Sending
 pub mod Steps
 pub mod Table
 pub mod Turns

@@ -14,15 +14,20 @@ abbrev pub WritesAs : (ℕ → ℕ → Type 0) → ℕ → Act → Type 0
 WritesAs Offers link (Wrote offered bytes) = Offers link offered
 WritesAs Offers link act = Unit {0}
 
-abbrev pub AllWriteAs : (ℕ → ℕ → Type 0) → List Entry → Type 0
-AllWriteAs Offers [] = Unit {0}
-AllWriteAs Offers (entry ∷ entries) = WritesAs Offers entry.link entry.act × AllWriteAs Offers entries
+-- this is said of each entry
+abbrev pub AllAs : (ℕ → Act → Type 0) → List Entry → Type 0
+AllAs Says [] = Unit {0}
+AllAs Says (entry ∷ entries) = Says entry.link entry.act × AllAs Says entries
 
--- a trace gains entries, and this holds of each write among them
-pub record GainsWrites (Offers : ℕ → ℕ → Type 0) (old now : List Entry) : Type 0 where
+-- a trace gains entries, and this is said of each among them
+pub record GainsAs (Says : ℕ → Act → Type 0) (old now : List Entry) : Type 0 where
   pub more : List Entry
   pub gains : now ≡ more ++ old
-  pub each : AllWriteAs Offers more
+  pub each : AllAs Says more
+
+-- and this of how many bytes were offered by each write among them
+abbrev pub GainsWrites : (ℕ → ℕ → Type 0) → List Entry → List Entry → Type 0
+GainsWrites Offers old now = GainsAs (WritesAs Offers) old now
 
 -- on this link so many bytes are offered
 abbrev pub OffersOn : ℕ → ℕ → ℕ → ℕ → Type 0

@@ -34,7 +34,7 @@ IsEachBufferOnce s = (n : ℕ) → places n s.pool.free + places n (joined s.que
 
 abbrev pub running_of : Inside → Running
 running_of s = record {
-  site = s.site;
+  site = s.planner.site;
   table = helds s.clients.items;
   offers = offers_of s.clients.items;
   queued = map (λ (c : Connected). c.numbers) s.clients.items;

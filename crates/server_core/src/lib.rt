@@ -8,6 +8,7 @@
 mod client;
 mod lending;
 mod places;
+mod reply;
 mod server;
 mod settle;
 mod step;

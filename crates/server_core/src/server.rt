@@ -4,12 +4,18 @@ ghost use Rattle.buffer_pool.specs.Kept.{Kept, HeldWithin};
 ghost use Rattle.chunkqueue.specs.Store.{unused};
 ghost use Rattle.lt_world.specs.Disk.{Disk};
 ghost use Rattle.lt_world.specs.Trace.{Entry};
+ghost use Rattle.settings.specs.InForm.{IsInForm};
+ghost use Rattle.cond_cache.specs.Kept.{HavePatterns};
+ghost use Rattle.request_settings.specs.Lists.{HaveRules};
+ghost use Rattle.server_model.specs.Comparing.{comparison_limit};
 ghost use Rattle.server_model.specs.Site.{site_at};
 ghost use Rattle.server_model.specs.Files.{IsTable, Backs};
 ghost use Rattle.server_model.specs.Serves.{Serves};
 ghost use Rattle.server_core.specs.Places.{ArePlaces};
 ghost use Rattle.server_core.specs.Steps.{seen_as};
 ghost use Rattle.server_core.specs.Table.{helds, held_count, numbers_of, Rising, all_freed};
+ghost use Rattle.server_core.specs.Compared.{wanted_in, ComparesIn};
+ghost use Rattle.server_core.specs.Asks.{GainsReads, AsksIn};
 ghost use Rattle.server_core.specs.Offers.{OffersIn, GainsWrites};
 ghost use Rattle.server_core.specs.Within.{serving_at, joined, IsEachBufferOnce};
 ghost use Rattle.server_core.specs.Turns.{Turned, OnRest, KindFits, Uses};
@@ -20,12 +26,14 @@ use crate::step::{Ready, release};
 use crate::table::{Arrival, accept_on, step_on};
 use crate::turn::Turn;
 use chunkqueue::{BUFFER_SIZE, Store};
+use conditions::{Matchers, Steps};
 use conf_value::Config;
 use lt_bytes::NoMemory;
 use lt_world::{Event, Files, Net};
-use request_plan::Site;
+use request_plan::Planner;
 use std::alloc::Global;
 use std::marker::Model;
+use std::sync::ledger::Ledger;
 
 /// Buffers that are made before the first client arrives.
 pub const SPARE_BUFFERS: u64 = 512;
@@ -40,7 +48,7 @@ pub struct Held {
 
 /// A server: what it serves, and the clients that are open. It must be closed: it can't be dropped.
 pub struct Server<'c> {
-    site: Site<'c>,
+    planner: Planner<'c>,
     clients: Vec<Client>,
     // Places for the clients that may still come.
     places: Vec<Client>,
@@ -67,8 +75,15 @@ impl<'c> Model for Server<'c> {
 }
 
 impl<'c> Server<'c> {
-    /// A server of what a configuration says, with no client.
-    pub fn new(alloc: Global, config: &'c Config) -> Result<Server<'c>, NoMemory>
+    /// A server of what a configuration says, with no client. The matchers are those of the configuration's patterns.
+    pub fn new(
+        alloc: Global,
+        config: &'c Config,
+        matchers: Matchers<'c>,
+    ) -> Result<Server<'c>, NoMemory>
+        requires form { IsInForm config.now }
+        requires conditions { HavePatterns config.now.blocks matchers }
+        requires rules { HaveRules config.now.blocks matchers }
         ensures site { IfOk result (λ server. server.site ≡ site_at config.now.blocks) }
         ensures empty { IfOk result (λ server. server.table ≡ []) }
         ensures spare { IfOk result (λ server. SPARE_BUFFERS ≤ length server.pool.free) }
@@ -80,11 +95,11 @@ impl<'c> Server<'c> {
             Ok(scratch) => scratch,
             Err(_) => return Err(NoMemory),
         };
-        let site = Site::new(alloc, config)?;
+        let planner = Planner::new(alloc, config, matchers)?;
         let mut store = spare_buffers(alloc)?;
         match room(alloc, &mut store) {
             Ok((clients, places)) => Ok(Server {
-                site,
+                planner,
                 clients,
                 places,
                 store,
@@ -99,7 +114,12 @@ impl<'c> Server<'c> {
 
     /// Takes the next event of the net, and does all that is due for it. Where the net answers no event,
     /// nothing is done.
-    pub fn turn<N: Net, F: Files>(&mut self, net: &mut N, files: &mut F) -> Turn
+    pub fn turn<N: Net, F: Files, L: Ledger>(
+        &mut self,
+        net: &mut N,
+        files: &mut F,
+        steps: &mut Steps<L>,
+    ) -> Turn
         requires table { IsTable (N.links net.old) self.old.table }
         requires backs { F.tells → Backs (F.disk files.old).table self.old.table }
         ensures table { IsTable (N.links net.new) self.new.table }
@@ -121,10 +141,21 @@ impl<'c> Server<'c> {
         // A write offers all unread bytes of the first chunk, or all that is staged of its range.
         ensures offers { N.tells → GainsWrites (OffersIn self.old.table self.old.offers) (N.trace net.old) (N.trace net.new) }
 
+        // A read asks for all that may still be held of the client's input, but for one buffer at most.
+        ensures asks { N.tells → GainsReads (AsksIn self.old.table) (N.trace net.old) (N.trace net.new) }
+
+        // Each condition is compared once for each of the few attributes that a request has, and by one more only where its
+        // client is closed for want of memory.
+        ensures steps { steps.new ≤ steps.old + comparison_limit self.old.site + 1 }
+        ensures wants { N.tells → steps.new ≤ steps.old + comparison_limit self.old.site + wanted_in (N.trace net.new) }
+        ensures passes { N.tells → F.tells → Serves (F.disk files.old) (serving_at self.old) (N.trace net.old) →
+            ComparesIn self.old.site (seen_as (F.disk files.old) (F.faults files.old) (F.reads files.old)) (N.trace net.old) (N.trace net.new) steps.old steps.new }
+
         // The answer is that of the net, and without an event nothing changes.
         ensures last { KindFits result (N.last net.new) }
         ensures rests { OnRest result (self.new ≡ self.old) }
         ensures rests_files { OnRest result (files.new ≡ files.old) }
+        ensures rests_steps { OnRest result (steps.new ≡ steps.old) }
         ensures rests_trace { OnRest result (N.tells → N.trace net.new ≡ N.trace net.old) }
         ensures left { N.ends → Uses result (N.left net.old) (N.left net.new) }
         ensures net_faults { N.faults net.old ≤ N.faults net.new }
@@ -140,7 +171,7 @@ impl<'c> Server<'c> {
                 accept_on(
                     &mut self.clients,
                     &mut self.places,
-                    &self.site,
+                    &self.planner,
                     &mut self.store,
                     net,
                     files,
@@ -152,11 +183,12 @@ impl<'c> Server<'c> {
                 step_on(
                     &mut self.clients,
                     &mut self.places,
-                    &self.site,
+                    &mut self.planner,
                     &mut self.store,
                     &mut self.scratch,
                     net,
                     files,
+                    steps,
                     link,
                     Ready::Reading,
                 );
@@ -166,11 +198,12 @@ impl<'c> Server<'c> {
                 step_on(
                     &mut self.clients,
                     &mut self.places,
-                    &self.site,
+                    &mut self.planner,
                     &mut self.store,
                     &mut self.scratch,
                     net,
                     files,
+                    steps,
                     link,
                     Ready::Writing,
                 );
@@ -215,7 +248,7 @@ impl<'c> Server<'c> {
         ensures later { F.later files.old files.new }
     {
         let Server {
-            site: _,
+            planner: _,
             mut clients,
             mut places,
             mut store,

@@ -10,16 +10,18 @@ use Rattle.server_core.proofs.Placed.{store_kept}
 use Rattle.server_core.proofs.Tabled.{push_kept}
 use Rattle.lt_world.specs.Trace.{Close}
 use Rattle.lt_world.specs.declared.net.Ending.TheVariants as ending
+use Rattle.server_core.specs.Asks.{AsksIn}
+use Rattle.server_core.proofs.Asking.{asks_none, asks_one}
 use Rattle.server_core.specs.Offers.{OffersIn}
 use Rattle.server_core.proofs.Offering.{gains_none, gains_one}
 use Rattle.server_core.proofs.table.accept_on.Goals as goal
 
 pub returns-then-len-ge-CONNECTION_LIMIT-clause-turn : goal.returns-then-len-ge-CONNECTION_LIMIT-clause-turn
-returns-then-len-ge-CONNECTION_LIMIT-clause-turn g c = turn_full c.args.arrival.link.0 c.args.arrival.peer c.args.arrival.local c.args.site.now (helds c.args.clients.now.items) (helds c.args.clients.now.items) g.N.Net.tells g.F.Files.tells (length c.args.store.now.free) (seen_as (g.F.Files.disk c.args.files.now) (g.F.Files.faults c.args.files.now) (g.F.Files.reads c.args.files.now)) (g.N.Net.trace c.args.net.now) (g.N.Net.trace c.close.new.self) (c.requires.table.below c.args.arrival.link.0 (omega arith))
+returns-then-len-ge-CONNECTION_LIMIT-clause-turn g c = turn_full c.args.arrival.link.0 c.args.arrival.peer c.args.arrival.local c.args.planner.now.site (helds c.args.clients.now.items) (helds c.args.clients.now.items) g.N.Net.tells g.F.Files.tells (length c.args.store.now.free) (seen_as (g.F.Files.disk c.args.files.now) (g.F.Files.faults c.args.files.now) (g.F.Files.reads c.args.files.now)) (g.N.Net.trace c.args.net.now) (g.N.Net.trace c.close.new.self) (c.requires.table.below c.args.arrival.link.0 (omega arith))
     (omega (arith, held_length c.args.clients.now.items, c.len.ensures, c.if-len-ge-CONNECTION_LIMIT.true)) refl c.close.ensures.trace c.requires.backs
 
 pub returns-clause-turn : goal.returns-clause-turn
-returns-clause-turn g c = turn_came c.args.arrival.link.0 c.args.arrival.peer c.args.arrival.local c.args.site.now (helds c.args.clients.now.items) (helds c.put_in.new.clients.items) g.N.Net.tells g.F.Files.tells (length c.args.store.now.free) (seen_as (g.F.Files.disk c.args.files.now) (g.F.Files.faults c.args.files.now) (g.F.Files.reads c.args.files.now)) (g.N.Net.trace c.args.net.now) (g.N.Net.trace c.args.net.now) (c.requires.table.below c.args.arrival.link.0 (omega arith))
+returns-clause-turn g c = turn_came c.args.arrival.link.0 c.args.arrival.peer c.args.arrival.local c.args.planner.now.site (helds c.args.clients.now.items) (helds c.put_in.new.clients.items) g.N.Net.tells g.F.Files.tells (length c.args.store.now.free) (seen_as (g.F.Files.disk c.args.files.now) (g.F.Files.faults c.args.files.now) (g.F.Files.reads c.args.files.now)) (g.N.Net.trace c.args.net.now) (g.N.Net.trace c.args.net.now) (c.requires.table.below c.args.arrival.link.0 (omega arith))
     c.new.result.held c.new.ensures.held (ap helds c.put_in.ensures.items ∙ helds_append c.args.clients.now.items (c.new.result ∷ []))
     (omega (arith, held_length c.args.clients.now.items, c.len.ensures, c.if-len-ge-CONNECTION_LIMIT.false)) c.requires.backs
 
@@ -47,3 +49,9 @@ put_in-requires-clause-within g c = omega (arith, c.len.ensures, c.if-len-ge-CON
 
 pub put_in-requires-clause-counted : goal.put_in-requires-clause-counted
 put_in-requires-clause-counted g c = omega (arith, c.requires.kept.counted)
+
+pub returns-then-len-ge-CONNECTION_LIMIT-clause-asks : goal.returns-then-len-ge-CONNECTION_LIMIT-clause-asks
+returns-then-len-ge-CONNECTION_LIMIT-clause-asks g c t = asks_one (AsksIn (helds c.args.clients.now.items)) c.args.arrival.link.0 (Close ending.Full) (g.N.Net.trace c.args.net.now) (g.N.Net.trace c.close.new.self) (c.close.ensures.trace t) tt
+
+pub returns-clause-asks : goal.returns-clause-asks
+returns-clause-asks g c t = asks_none (AsksIn (helds c.args.clients.now.items)) (g.N.Net.trace c.args.net.now) (g.N.Net.trace c.args.net.now) refl
