@@ -16,6 +16,7 @@ use crate::explaining::{explain, is_at_terminal};
 use crate::help::{asks_for_help, help};
 use crate::named_texts::NamedTexts;
 use crate::out_sink::OutSink;
+use conditions::RegexMaker;
 use files_disk::{DiskFiles, DiskTexts};
 use lt_commands::{Status, answer};
 use lt_serve::serve;
@@ -26,12 +27,13 @@ use std::{env, io};
 
 fn main(rt: HostRuntime) -> ExitCode {
     let mut texts = NamedTexts::new(rt.alloc(), DiskTexts::new(&rt));
+    let mut maker = RegexMaker::new(rt.alloc());
     let mut sink = OutSink::new(&rt);
     let words = match words_of(&rt) {
         Ok(words) => words,
         Err(error) => return end(&rt, refusal_of(&error)),
     };
-    let mut status = answer(rt.alloc(), &words, &mut texts, &mut sink);
+    let mut status = answer(rt.alloc(), &words, &mut texts, &mut maker, &mut sink);
     if status == Status::Usage {
         // No line without sockets: the words may be the one that serves.
         let mut files = DiskFiles::new(&rt);
@@ -41,6 +43,7 @@ fn main(rt: HostRuntime) -> ExitCode {
                 rt.alloc(),
                 &words,
                 &mut texts,
+                &mut maker,
                 &mut net,
                 &mut files,
                 &mut sink,

@@ -13,10 +13,12 @@ pub const REQUESTS: &[u8] =
     b"GET /small HTTP/1.1\r\nHost: h\r\n\r\nGET /large HTTP/1.1\r\nHost: h\r\nConnection: close\r\n\r\n";
 
 const SMALL_HEAD: &[u8] =
-    b"HTTP/1.1 200 OK\r\nContent-Type: application/octet-stream\r\nContent-Length: 300\r\nServer: lighttpd\r\n\r\n";
+    b"HTTP/1.1 200 OK\r\nContent-Type: application/octet-stream\r\nAccept-Ranges: bytes\r\n\
+Last-Modified: Thu, 01 Jan 1970 00:00:00 GMT\r\nContent-Length: 300\r\nServer: lighttpd\r\n\r\n";
 
 const LARGE_HEAD: &[u8] =
-    b"HTTP/1.1 200 OK\r\nContent-Type: application/octet-stream\r\nContent-Length: 70000\r\nConnection: close\r\nServer: lighttpd\r\n\r\n";
+    b"HTTP/1.1 200 OK\r\nContent-Type: application/octet-stream\r\nAccept-Ranges: bytes\r\n\
+Last-Modified: Thu, 01 Jan 1970 00:00:00 GMT\r\nContent-Length: 70000\r\nConnection: close\r\nServer: lighttpd\r\n\r\n";
 
 /// What a file of so many bytes holds. Its bytes come again after 251, a prime, so that no two pieces of a size that
 /// servers read by begin alike.

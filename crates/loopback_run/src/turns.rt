@@ -1,10 +1,12 @@
 //! Turns of the server, until its client is done.
-ghost use Rattle.std.specs.Prelude.{◌≡◌};
+ghost use Rattle.std.specs.Prelude.{◌≡◌, ◌<◌};
 ghost use Rattle.server_model.specs.Files.{IsTable, Backs};
 
 use crate::client::{Bell, Client, Standing};
+use conditions::Steps;
 use lt_world::{Files, Waits};
 use server_core::{Server, Turn};
+use std::sync::ledger::{Blank, Ledger};
 use std::thread::sleep;
 use std::time::{Clock, Duration};
 
@@ -51,8 +53,10 @@ fn pass_time<R: Clock, N: Waits>(
     }
 }
 
-/// Takes turns, until the server has ended the client's connection. Where nothing is ready the client looks at its socket.
-pub fn serve<R: Clock, N: Waits, F: Files>(
+/// Takes turns, until the server has ended the client's connection, by a ledger that was opened for the count of
+/// comparisons alone. Where nothing is ready the client looks at its socket.
+pub fn serve<R: Clock, N: Waits, F: Files, L: Ledger>(
+    blank: Blank,
     rt: &R,
     server: &mut Server<'_>,
     net: &mut N,
@@ -60,12 +64,16 @@ pub fn serve<R: Clock, N: Waits, F: Files>(
     client: &mut Client<'_>,
     bell: &mut Bell,
 ) -> Finish
+    requires name { blank.name ≡ L.name }
+    requires parts { blank.parts ≡ L.parts }
+    requires some { 0 < L.parts }
     requires table { IsTable (N.links net.old) server.old.table }
     requires backs { F.tells → Backs (F.disk files.old).table server.old.table }
     ensures backs { F.tells → Backs (F.disk files.new).table server.new.table }
 {
+    let mut steps: Steps<L> = Steps::new(blank);
     for _ in 0..TURN_LIMIT {
-        match server.turn(net, files) {
+        match server.turn(net, files, &mut steps) {
             Turn::Did => {}
             Turn::NoMemory => return Finish::NoMemory,
             Turn::Idle | Turn::Over => {

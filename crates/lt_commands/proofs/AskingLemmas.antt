@@ -1,5 +1,5 @@
 -- From what loading a configuration and reading a text ask to what a whole call asks.
-use Rattle.std.proofs.Common.{◌≡◌, ℕ, List, ◌∙◌, inl, inr}
+use Rattle.std.proofs.Common.{◌≡◌, ℕ, List, refl, sym, subst, inl, inr}
 use Rattle.std.specs.Prelude.{Err}
 use Rattle.lt_script.specs.declared.script.Script.{Script}
 use Rattle.lt_world.specs.TextAnswers.{Library}
@@ -11,12 +11,15 @@ use Rattle.lt_commands.specs.declared.status.Status.{Status}
 use Rattle.lt_commands.specs.declared.status.Status.TheVariants as status
 use Rattle.lt_commands.specs.Fetching.{AsksConf, AsksBoth, ReplayAsks, CheckAsks, PrintAsks}
 use Rattle.lt_commands.specs.Loading.{LoadsAs}
+use Rattle.conditions.specs.declared.made.Asked.{Asked}
+use Rattle.conf_eval.specs.Answers.{kept}
+use Rattle.conf_eval.specs.Calls.{Calls}
 use Rattle.lt_commands.specs.Offline.{PlaySays}
 use Rattle.lt_commands.specs.Printing.{TreeSays}
 use Rattle.conf_parse.specs.declared.tree.Tree.{Tree}
 use Rattle.lt_commands.specs.Reading.{Asks, AsksFor, ScriptSays}
 
-module _ (conf script : List ℕ) (library : Library) (before mid after : List Fetch) where
+module _ (conf script : List ℕ) (library : Library) (before after : Calls) where
   -- the configuration was refused: nothing else was asked for
   pub conf_asks : (answer : Status) → LoadsAs (Err answer) conf library before after → ReplayAsks answer conf script library before after
   conf_asks (status.Missing number) loads = inl loads
@@ -30,15 +33,17 @@ module _ (conf script : List ℕ) (library : Library) (before mid after : List F
   conf_asks status.Done loads = absurd loads.ends
   conf_asks status.SinkFault loads = absurd loads.ends
 
-  both_asked : (answer : FetchKind) → AsksConf conf library before mid → AsksFor script answer mid after → AsksBoth conf script answer library before after
-  both_asked answer accepted asked = record { mid = mid; accepted = accepted; asked = asked }
+-- the script was asked for after the configuration was loaded, and no pattern besides
+module _ (conf script : List ℕ) (library : Library) (before : Calls) (mid after : List Fetch) (makes : List Asked) where
+  both_asked : (answer : FetchKind) → AsksConf conf library before (kept mid makes) → AsksFor script answer mid after → AsksBoth conf script answer library before (kept after makes)
+  both_asked answer accepted asked = record { mid = kept mid makes; accepted = accepted; asked = asked; unmade = refl }
 
   -- nothing was asked for besides
-  unasked : after ≡ mid → AsksConf conf library before mid → AsksConf conf library before after
-  unasked same accepted = (accepted.0, record { asked = accepted.1.asked; calls = same ∙ accepted.1.calls; ends = accepted.1.ends })
+  unasked : after ≡ mid → AsksConf conf library before (kept mid makes) → AsksConf conf library before (kept after makes)
+  unasked same accepted = subst (λ (texts : List Fetch). AsksConf conf library before (kept texts makes)) (sym same) accepted
 
   -- the configuration was accepted, and the script was refused
-  pub script_asks : (answer : Status) → AsksConf conf library before mid → ScriptSays (Err answer) (library script) → Asks {A = Script} (Err answer) script mid after → ReplayAsks answer conf script library before after
+  pub script_asks : (answer : Status) → AsksConf conf library before (kept mid makes) → ScriptSays (Err answer) (library script) → Asks {A = Script} (Err answer) script mid after → ReplayAsks answer conf script library before (kept after makes)
   script_asks (status.Missing number) accepted says asks = inr (says.0, both_asked fetch.Missing accepted asks)
   script_asks (status.Script line) accepted says (inl text) = inl (both_asked fetch.Text accepted text)
   script_asks (status.Script line) accepted says (inr long) = inr (both_asked fetch.Long accepted long)
@@ -53,7 +58,7 @@ module _ (conf script : List ℕ) (library : Library) (before mid after : List F
   script_asks status.SinkFault accepted says asks = absurd says
 
   -- both were accepted
-  pub play_asks : (answer : Status) (last : NextKind) → PlaySays answer last → AsksConf conf library before mid → AsksFor script fetch.Text mid after → ReplayAsks answer conf script library before after
+  pub play_asks : (answer : Status) (last : NextKind) → PlaySays answer last → AsksConf conf library before (kept mid makes) → AsksFor script fetch.Text mid after → ReplayAsks answer conf script library before (kept after makes)
   play_asks status.Done last ends accepted asked = both_asked fetch.Text accepted asked
   play_asks status.SinkFault last ends accepted asked = both_asked fetch.Text accepted asked
   play_asks status.NoMemory last ends accepted asked = inr (inr (both_asked fetch.Text accepted asked))
@@ -66,7 +71,7 @@ module _ (conf script : List ℕ) (library : Library) (before mid after : List F
   play_asks (status.Missing number) last ends accepted asked = absurd ends
 
 -- the configuration that was to be checked was refused
-pub check_asks : (answer : Status) (conf : List ℕ) (library : Library) (before after : List Fetch) → LoadsAs (Err answer) conf library before after → CheckAsks answer conf library before after
+pub check_asks : (answer : Status) (conf : List ℕ) (library : Library) (before after : Calls) → LoadsAs (Err answer) conf library before after → CheckAsks answer conf library before after
 check_asks (status.Missing number) conf library before after loads = loads
 check_asks (status.Conf fault) conf library before after loads = loads
 check_asks status.TextFault conf library before after loads = loads

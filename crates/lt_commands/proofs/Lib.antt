@@ -1,3 +1,4 @@
+mod EmptyConf
 mod OfflineLemmas
 mod WordsLemmas
 mod LoadLemmas

@@ -1,5 +1,5 @@
 -- What a run over a script means for the script.
-use Rattle.std.proofs.Common.{◌≡◌, ℕ, List, [], refl, sym, ap, ◌∙◌, inl, inr}
+use Rattle.std.proofs.Common.{◌≡◌, ◌≤◌, ℕ, List, [], arith, refl, sym, ap, ◌∙◌, inl, inr}
 use Rattle.lt_world.specs.Causes.{Rose}
 use Rattle.lt_world.specs.declared.net.NextKind.{NextKind}
 use Rattle.lt_commands.specs.declared.status.Status.{Status}
@@ -8,8 +8,9 @@ use Rattle.std.specs.Prelude.{Err}
 use Rattle.lt_world.specs.TextAnswers.{Library}
 use Rattle.conf_eval.specs.declared.fault.Loaded.{Loaded}
 use Rattle.lt_commands.specs.Benching.{bench_name, bench_texts}
+use Rattle.lt_commands.specs.Failures.{Failures}
 use Rattle.lt_commands.specs.Loading.{HasSomeConf, IsOnlyConf, LoadSays}
-use Rattle.lt_commands.specs.Reading.{IsOnly, ScriptSays}
+use Rattle.lt_commands.specs.Reading.{IsOnly, ReadCause, ScriptSays}
 use Rattle.lt_commands.specs.Offline.{PlaySays, BenchSays, FaultsSay, ReplaySays, CheckSays, MemorySays, HasSomeScript, IsComplete, IsCompleteLoad, IsOfLine, IsRefusal}
 use Rattle.script_net.specs.Steps.{events_left}
 use Rattle.lt_script.specs.declared.script.Script.{Script}
@@ -183,14 +184,31 @@ play_runs (status.Script line) last ends is = ends
 play_runs (status.Missing number) last ends is = ends
 
 -- its only fault is the sink's
-pub play_faults : (answer : Status) (last : NextKind) (texts_before texts_after before after : ℕ) → PlaySays answer last → (answer ≡ status.SinkFault → Rose before after) → FaultsSay answer texts_before texts_after before after
-play_faults status.Done last texts_before texts_after before after ends cause = tt
-play_faults status.NoMemory last texts_before texts_after before after ends cause = tt
-play_faults status.SinkFault last texts_before texts_after before after ends cause = cause refl
-play_faults status.TextFault last texts_before texts_after before after ends cause = absurd ends
-play_faults (status.Conf fault) last texts_before texts_after before after ends cause = absurd ends
-play_faults status.Usage last texts_before texts_after before after ends cause = tt
-play_faults status.ListenFault last texts_before texts_after before after ends cause = tt
-play_faults status.WaitFault last texts_before texts_after before after ends cause = tt
-play_faults (status.Script line) last texts_before texts_after before after ends cause = tt
-play_faults (status.Missing number) last texts_before texts_after before after ends cause = tt
+pub play_faults : (answer : Status) (last : NextKind) (before after : Failures) → PlaySays answer last → (answer ≡ status.SinkFault → Rose before.sink after.sink) → FaultsSay answer before after
+play_faults status.Done last before after ends cause = tt
+play_faults status.NoMemory last before after ends cause = tt
+play_faults status.SinkFault last before after ends cause = cause refl
+play_faults status.TextFault last before after ends cause = absurd ends
+play_faults (status.Conf fault) last before after ends cause = absurd ends
+play_faults status.Usage last before after ends cause = tt
+play_faults status.ListenFault last before after ends cause = tt
+play_faults status.WaitFault last before after ends cause = tt
+play_faults (status.Script line) last before after ends cause = tt
+play_faults (status.Missing number) last before after ends cause = tt
+
+-- what rose since then rose since before
+risen_since : (before mid after : ℕ) → before ≤ mid → Rose mid after → Rose before after
+risen_since before mid after more rose = grind (arith, more, rose)
+
+-- a text that was refused is a fault of the texts alone
+pub read_faults : (A : Type 0) (answer : Status) (mid : ℕ) (before after : Failures) → before.texts ≤ mid → ReadCause {A = A} (Err answer) mid after.texts → FaultsSay answer before after
+read_faults A status.TextFault mid before after more cause = risen_since before.texts mid after.texts more cause
+read_faults A (status.Conf fault) mid before after more cause = record { unread = λ p. risen_since before.texts mid after.texts more (cause.0 p); refused = λ p. absurd (cause.1 p) }
+read_faults A status.SinkFault mid before after more cause = absurd cause
+read_faults A status.Done mid before after more cause = tt
+read_faults A status.NoMemory mid before after more cause = tt
+read_faults A status.Usage mid before after more cause = tt
+read_faults A status.ListenFault mid before after more cause = tt
+read_faults A status.WaitFault mid before after more cause = tt
+read_faults A (status.Script line) mid before after more cause = tt
+read_faults A (status.Missing number) mid before after more cause = tt

@@ -8,11 +8,12 @@ use Rattle.script_net.specs.Loads.{planted}
 use Rattle.script_net.specs.Plays.{Plays}
 use Rattle.conf_eval.specs.declared.fault.Loaded.{Loaded}
 use Rattle.conf_eval.specs.Settings.{blocks_of}
-use Rattle.conf_eval.proofs.Forms.{good_settings, in_form}
+use Rattle.lt_commands.proofs.EmptyConf.{empty_in_form}
 use Rattle.server_model.specs.Site.{site_at}
 use Rattle.lt_commands.specs.declared.status.Status.{Status}
 use Rattle.lt_commands.specs.declared.status.Status.TheVariants as status
 use Rattle.lt_commands.specs.Endings.{AllEndCalmly}
+use Rattle.lt_commands.specs.Loading.{LoadCause}
 use Rattle.lt_commands.specs.Reading.{ReadCause}
 use Rattle.lt_commands.specs.Runs.{Asked, asked_of}
 use Rattle.lt_commands.specs.Serving.{ServesBy, ServesSome}
@@ -40,13 +41,13 @@ unrun loaded said answer left trace uncalled untold plays = record {
 }
 
 abbrev no_conf : Loaded
-no_conf = record { config = record { blocks = blocks_of []; warnings = [] } }
+no_conf = record { config = record { blocks = blocks_of []; warnings = [] }; patterns = [] }
 
 -- so there are some
 pub unserved_some : (answer : Status) (left : Asked) (trace : List Entry) → left ≡ asked_of no_files → trace ≡ [] → ServesSome answer left trace
 unserved_some answer left trace uncalled untold = record {
   loaded = no_conf;
-  in_form = in_form [] [] (good_settings [] tt);
+  in_form = empty_in_form;
   said = no_script;
   serves = unrun no_conf no_script answer left trace uncalled untold (λ done. nothing_played trace untold);
 }
@@ -54,6 +55,10 @@ unserved_some answer left trace uncalled untold = record {
 -- a text that was refused is no call that was done
 pub undone : (A : Type 0) (answer : Status) (before now : ℕ) → ReadCause {A = A} (Err answer) before now → answer ≡ status.Done → ⊥
 undone A answer before now cause done = subst (λ (s : Status). ReadCause {A = A} (Err s) before now) done cause
+
+-- nor is a configuration that was
+pub unloaded : (answer : Status) (faults faults_now refusals refusals_now : ℕ) → LoadCause (Err answer) faults faults_now refusals refusals_now → answer ≡ status.Done → ⊥
+unloaded answer faults faults_now refusals refusals_now cause done = subst (λ (s : Status). LoadCause (Err s) faults faults_now refusals refusals_now) done cause
 
 -- the same configuration and script under other names
 pub served_for : (loaded other : Loaded) (said script : Script) (answer : Status) (left : Asked) (trace : List Entry) → ServesBy loaded said answer left trace → loaded ≡ other → said ≡ script → ServesBy other script answer left trace

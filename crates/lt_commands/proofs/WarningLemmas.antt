@@ -4,6 +4,7 @@ use Rattle.std.specs.Prelude.{Err}
 use Rattle.std.proofs.lemmas.List.{append_assoc}
 use Rattle.lt_commands.specs.declared.status.Status.{Status}
 use Rattle.lt_commands.specs.declared.status.Status.TheVariants as status
+use Rattle.lt_commands.specs.Failures.{Failures}
 use Rattle.lt_commands.specs.Offline.{SinkSays}
 use Rattle.lt_commands.specs.Warned.{WarnedFaults}
 
@@ -32,5 +33,5 @@ front_behind lines last front rest before mid after begins had got =
     (lines ++ front, rest, ap (λ (t : List ℕ). lines ++ t) begins ∙ sym (append_assoc lines front rest), got ∙ ap (λ (t : List ℕ). t ++ front) had ∙ append_assoc before lines front)
 
 -- a refusal is no call that was done
-pub warned_undone : (answer : Status) (a b m n : ℕ) → WarnedFaults (Err answer) a b m n → answer ≡ status.Done → ⊥
-warned_undone answer a b m n faults done = subst (λ (s : Status). WarnedFaults (Err s) a b m n) done faults
+pub warned_undone : (answer : Status) (before after : Failures) → WarnedFaults (Err answer) before after → answer ≡ status.Done → ⊥
+warned_undone answer before after faults done = subst (λ (s : Status). WarnedFaults (Err s) before after) done faults

@@ -3,13 +3,14 @@ use Rattle.std.proofs.Common.{◌≡◌, ℕ, List, [], refl, sym, subst, ◌∙
 use Rattle.std.specs.Prelude.{Some}
 use Rattle.lt_world.specs.declared.net.NextKind.{NextKind}
 use Rattle.lt_world.specs.declared.net.NextKind.TheVariants as kind
-use Rattle.lt_world.specs.declared.texts.Fetch.{Fetch}
 use Rattle.lt_world.specs.TextAnswers.{Library}
 use Rattle.lt_commands.specs.declared.status.Status.{Status}
 use Rattle.lt_commands.specs.declared.status.Status.TheVariants as status
 use Rattle.lt_commands.specs.Words.{Line, Replay, Check, Print, Bench, as_words, SpellsLine, IsNoLine}
 use Rattle.lt_commands.specs.Offline.{IsOfLine, WordsSay, LineSays, FaultsSay, MemorySays, Completes, SinkSays}
+use Rattle.lt_commands.specs.Failures.{Failures}
 use Rattle.lt_commands.specs.Fetching.{LineAsks}
+use Rattle.conf_eval.specs.Calls.{Calls, no_calls}
 
 same_words : (words : List (List ℕ)) (a b : Line) → SpellsLine words a → SpellsLine words b → as_words a ≡ as_words b
 same_words words a b p q = let both : Some (as_words a) ≡ Some (as_words b) = sym p ∙ q in cc both
@@ -74,22 +75,22 @@ memory_alone status.ListenFault words line none spelled = absurd none
 memory_alone status.WaitFault words line none spelled = absurd none
 
 -- what is said of a call whose words give no line
-pub record Wordless (answer : Status) (words : List (List ℕ)) (last : NextKind) (texts texts_now sink sink_now : ℕ) : Type 0 where
+pub record Wordless (answer : Status) (words : List (List ℕ)) (last : NextKind) (before after : Failures) : Type 0 where
   pub words_say : WordsSay answer words
-  pub faults : FaultsSay answer texts texts_now sink sink_now
+  pub faults : FaultsSay answer before after
   pub memory : MemorySays answer last
 
-pub wordless : (answer : Status) (words : List (List ℕ)) (last : NextKind) (texts texts_now sink sink_now : ℕ) → IsNoLine answer words → last ≡ kind.NoneYet → Wordless answer words last texts texts_now sink sink_now
-wordless status.Usage words last texts texts_now sink sink_now none unasked = record { words_say = none; faults = tt; memory = tt }
-wordless status.NoMemory words last texts texts_now sink sink_now none unasked = record { words_say = tt; faults = tt; memory = inl unasked }
-wordless status.Done words last texts texts_now sink sink_now none unasked = absurd none
-wordless (status.Conf fault) words last texts texts_now sink sink_now none unasked = absurd none
-wordless (status.Script number) words last texts texts_now sink sink_now none unasked = absurd none
-wordless status.TextFault words last texts texts_now sink sink_now none unasked = absurd none
-wordless status.SinkFault words last texts texts_now sink sink_now none unasked = absurd none
-wordless (status.Missing number) words last texts texts_now sink sink_now none unasked = absurd none
-wordless status.ListenFault words last texts texts_now sink sink_now none unasked = absurd none
-wordless status.WaitFault words last texts texts_now sink sink_now none unasked = absurd none
+pub wordless : (answer : Status) (words : List (List ℕ)) (last : NextKind) (before after : Failures) → IsNoLine answer words → last ≡ kind.NoneYet → Wordless answer words last before after
+wordless status.Usage words last before after none unasked = record { words_say = none; faults = tt; memory = tt }
+wordless status.NoMemory words last before after none unasked = record { words_say = tt; faults = tt; memory = inl unasked }
+wordless status.Done words last before after none unasked = absurd none
+wordless (status.Conf fault) words last before after none unasked = absurd none
+wordless (status.Script number) words last before after none unasked = absurd none
+wordless status.TextFault words last before after none unasked = absurd none
+wordless status.SinkFault words last before after none unasked = absurd none
+wordless (status.Missing number) words last before after none unasked = absurd none
+wordless status.ListenFault words last before after none unasked = absurd none
+wordless status.WaitFault words last before after none unasked = absurd none
 
 -- want of memory fits every line
 memory_says : (line : Line) (library : Library) → LineSays status.NoMemory line library
@@ -101,13 +102,13 @@ memory_says (Bench clients) library = tt
 pub wordless_says : (answer : Status) (line : Line) (library : Library) → answer ≡ status.NoMemory → LineSays answer line library
 wordless_says answer line library is = subst (λ (s : Status). LineSays s line library) (sym is) (memory_says line library)
 
-memory_asks : (line : Line) (library : Library) (calls : List Fetch) → LineAsks status.NoMemory line library calls calls
-memory_asks (Replay conf script) library calls = inl (record { asked = []; calls = refl; ends = tt })
-memory_asks (Check conf) library calls = inl (record { asked = []; calls = refl; ends = tt })
-memory_asks (Print conf) library calls = inl refl
+memory_asks : (line : Line) (library : Library) (calls : Calls) → LineAsks status.NoMemory line library calls calls
+memory_asks (Replay conf script) library calls = inl (record { asked = no_calls; calls = refl; ends = tt })
+memory_asks (Check conf) library calls = inl (record { asked = no_calls; calls = refl; ends = tt })
+memory_asks (Print conf) library calls = (inl refl, refl)
 memory_asks (Bench clients) library calls = refl
 
-pub wordless_asks : (answer : Status) (line : Line) (library : Library) (calls : List Fetch) → answer ≡ status.NoMemory → LineAsks answer line library calls calls
+pub wordless_asks : (answer : Status) (line : Line) (library : Library) (calls : Calls) → answer ≡ status.NoMemory → LineAsks answer line library calls calls
 wordless_asks answer line library calls is = subst (λ (s : Status). LineAsks s line library calls calls) (sym is) (memory_asks line library calls)
 
 memory_completes : (line : Line) (library : Library) → Completes status.NoMemory line library

@@ -3,6 +3,7 @@ pub mod Calls
 pub mod Endings
 pub mod Exits
 pub mod Explaining
+pub mod Failures
 pub mod Fetching
 pub mod Loading
 pub mod Offline

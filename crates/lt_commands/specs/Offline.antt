@@ -7,12 +7,13 @@ use Rattle.lt_world.specs.declared.net.NextKind.TheVariants as kind
 use Rattle.lt_script.specs.declared.script.Script.{Script}
 use Rattle.conf_parse.specs.declared.tree.Tree.{Tree}
 use Rattle.conf_parse.specs.Print.{printed}
-use Rattle.conf_eval.specs.declared.fault.ConfKind.TheVariants as cause
+use Rattle.conf_eval.specs.Answers.{Caused}
 use Rattle.conf_eval.specs.declared.fault.Loaded.{Loaded}
 use Rattle.lt_commands.specs.declared.status.Status.{Status}
 use Rattle.lt_commands.specs.declared.status.Status.TheVariants as status
 use Rattle.lt_commands.specs.Words.{Line, Replay, Check, Print, Bench, SpellsLine}
-use Rattle.lt_commands.specs.Loading.{HasConf, HasSomeConf, HasFault}
+use Rattle.lt_commands.specs.Failures.{Failures}
+use Rattle.lt_commands.specs.Loading.{HasConf, HasSomeConf, HasFault, IsOutside}
 use Rattle.lt_commands.specs.Reading.{HasScript, IsWrongAt}
 use Rattle.lt_commands.specs.Printing.{HasTree, IsFault}
 use Rattle.lt_commands.specs.Warnings.{checked}
@@ -100,9 +101,10 @@ IsComplete status.TextFault = Unit {0}
 IsComplete status.SinkFault = Unit {0}
 IsComplete other = ⊥
 
--- the same where texts are included: such a text may be the one that cannot be read
+-- the same where a configuration is loaded: a text that it includes may be the one that cannot be read, and one of its
+-- patterns may be refused
 abbrev pub IsCompleteLoad : Status → Type 0
-IsCompleteLoad (status.Conf fault) = fault.kind ≡ cause.TextFault
+IsCompleteLoad (status.Conf fault) = IsOutside fault.kind
 IsCompleteLoad other = IsComplete other
 
 abbrev pub Completes : Status → Line → Library → Type 0
@@ -131,11 +133,11 @@ SinkSays status.SinkFault output before after = (front rest : List ℕ) × (outp
 SinkSays other output before after = after ≡ before
 
 -- a fault is answered only where the count of what failed rose
-abbrev pub FaultsSay : Status → ℕ → ℕ → ℕ → ℕ → Type 0
-FaultsSay status.TextFault texts_before texts_after sink_before sink_after = Rose texts_before texts_after
-FaultsSay (status.Conf fault) texts_before texts_after sink_before sink_after = fault.kind ≡ cause.TextFault → Rose texts_before texts_after
-FaultsSay status.SinkFault texts_before texts_after sink_before sink_after = Rose sink_before sink_after
-FaultsSay other texts_before texts_after sink_before sink_after = Unit {0}
+abbrev pub FaultsSay : Status → Failures → Failures → Type 0
+FaultsSay status.TextFault before after = Rose before.texts after.texts
+FaultsSay (status.Conf fault) before after = Caused fault.kind before.texts after.texts before.patterns after.patterns
+FaultsSay status.SinkFault before after = Rose before.sink after.sink
+FaultsSay other before after = Unit {0}
 
 -- once the net was asked for an event, memory is wanted only where the net's last answer wants it
 abbrev pub MemorySays : Status → NextKind → Type 0

@@ -1,5 +1,5 @@
 -- What reading the named texts may answer: what they spell, or the first refusal.
-use Rattle.std.specs.Prelude.{◌≡◌, ℕ, ◌<◌, ◌≤◌, ◌⊎◌, List, ◌∷◌, length, Option, Some, None, Result, Ok, Err}
+use Rattle.std.specs.Prelude.{◌≡◌, ◌≢◌, ℕ, ◌<◌, ◌≤◌, ◌⊎◌, List, ◌∷◌, length, Option, Some, None, Result, Ok, Err}
 use Rattle.lt_world.specs.Causes.{Rose}
 use Rattle.lt_world.specs.declared.texts.Fetch.{Fetch}
 use Rattle.lt_world.specs.declared.texts.FetchKind.{FetchKind}
@@ -15,10 +15,10 @@ use Rattle.lt_commands.specs.declared.status.Status.TheVariants as status
 abbrev pub HasScript : Option (List ℕ) → Script → Type 0
 HasScript held script = (text : List ℕ) × (held ≡ Some text) × (length text ≤ SCRIPT_LIMIT) × Spells text script
 
--- what reading a text may answer: a fault only where the count of the texts rose
+-- what reading a text may answer: a fault only where the count of the texts rose, and never that a pattern was refused
 abbrev pub ReadCause : {A : Type 0} → Result A Status → ℕ → ℕ → Type 0
 ReadCause (Err status.TextFault) before after = Rose before after
-ReadCause (Err (status.Conf fault)) before after = fault.kind ≡ kind.TextFault → Rose before after
+ReadCause (Err (status.Conf fault)) before after = (fault.kind ≡ kind.TextFault → Rose before after) × (fault.kind ≢ kind.PatternRefused)
 ReadCause (Err status.Done) before after = ⊥
 ReadCause (Err status.Usage) before after = ⊥
 ReadCause (Err status.ListenFault) before after = ⊥

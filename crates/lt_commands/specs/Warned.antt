@@ -1,12 +1,13 @@
 -- What is answered where a configuration is loaded and its warnings are put out: the configuration, or the status.
 use Rattle.std.specs.Prelude.{◌≡◌, ℕ, ◌++◌, List, Result, Ok, Err}
 use Rattle.lt_world.specs.TextAnswers.{Library}
-use Rattle.lt_world.specs.declared.texts.Fetch.{Fetch}
 use Rattle.conf_eval.specs.declared.fault.Loaded.{Loaded}
 use Rattle.lt_commands.specs.declared.status.Status.{Status}
 use Rattle.lt_commands.specs.declared.status.Status.TheVariants as status
+use Rattle.lt_commands.specs.Failures.{Failures}
 use Rattle.lt_commands.specs.Fetching.{CheckAsks}
 use Rattle.lt_commands.specs.Loading.{HasConf, LoadsAs}
+use Rattle.conf_eval.specs.Calls.{Calls}
 use Rattle.lt_commands.specs.Offline.{CheckSays, FaultsSay, IsCompleteLoad, SinkSays}
 
 -- by the texts
@@ -19,19 +20,19 @@ abbrev pub IsOnlyWarned : Loaded → Result Loaded Status → Type 0
 IsOnlyWarned loaded (Ok found) = found ≡ loaded
 IsOnlyWarned loaded (Err answer) = IsCompleteLoad answer
 
--- which texts were asked for
-abbrev pub WarnedAsks : Result Loaded Status → List ℕ → Library → List Fetch → List Fetch → Type 0
+-- which texts and patterns were asked for
+abbrev pub WarnedAsks : Result Loaded Status → List ℕ → Library → Calls → Calls → Type 0
 WarnedAsks (Ok loaded) name library before after = LoadsAs (Ok loaded) name library before after
 WarnedAsks (Err answer) name library before after = CheckAsks answer name library before after
 
 -- the status is that of a refusal, and of a fault only where the count of what failed rose
-abbrev pub WarnedFaults : Result Loaded Status → ℕ → ℕ → ℕ → ℕ → Type 0
-WarnedFaults (Ok loaded) texts_before texts_after sink_before sink_after = Unit {0}
-WarnedFaults (Err status.Done) texts_before texts_after sink_before sink_after = ⊥
-WarnedFaults (Err status.Usage) texts_before texts_after sink_before sink_after = ⊥
-WarnedFaults (Err status.ListenFault) texts_before texts_after sink_before sink_after = ⊥
-WarnedFaults (Err status.WaitFault) texts_before texts_after sink_before sink_after = ⊥
-WarnedFaults (Err answer) texts_before texts_after sink_before sink_after = FaultsSay answer texts_before texts_after sink_before sink_after
+abbrev pub WarnedFaults : Result Loaded Status → Failures → Failures → Type 0
+WarnedFaults (Ok loaded) before after = Unit {0}
+WarnedFaults (Err status.Done) before after = ⊥
+WarnedFaults (Err status.Usage) before after = ⊥
+WarnedFaults (Err status.ListenFault) before after = ⊥
+WarnedFaults (Err status.WaitFault) before after = ⊥
+WarnedFaults (Err answer) before after = FaultsSay answer before after
 
 -- the sink got these warnings, or the front of them where it failed, and nothing at any other status
 abbrev pub WarnedTo : Result Loaded Status → List ℕ → List ℕ → List ℕ → Type 0

@@ -2,11 +2,13 @@
 ghost use Rattle.std.specs.Prelude.{◌≡◌, ◌≤◌, ℕ, List, [], IfOk};
 ghost use Rattle.lt_world.specs.Memory.{no_files};
 ghost use Rattle.settings.specs.InForm.{IsInForm};
+ghost use Rattle.conf_eval.specs.Patterns.{ArePatterns};
 ghost use Rattle.conf_eval.specs.declared.fault.Loaded.{Loaded};
 ghost use Rattle.script_net.specs.Playing.{unplayed};
 ghost use Rattle.script_gen.specs.Totals.{summary_of};
 ghost use Rattle.command_words.specs.declared.line.TheConstants.{MAX_CLIENTS};
 ghost use Rattle.lt_commands.specs.Benching.{bench_name, bench_texts};
+ghost use Rattle.lt_commands.specs.Failures.{failures};
 ghost use Rattle.lt_commands.specs.Loading.{HasConf};
 ghost use Rattle.lt_commands.specs.Offline.{BenchSays, FaultsSay, IsOfLine, IsRefusal, MemorySays, SinkSays};
 ghost use Rattle.lt_commands.specs.Runs.{asked_of};
@@ -15,6 +17,7 @@ ghost use Rattle.lt_commands.specs.Serving.{ServesBench, ServesSome};
 use crate::loading::load_conf;
 use crate::playing::{Output, play};
 use crate::status::Status;
+use conditions::RegexMaker;
 use conf_eval::Loaded;
 use lt_bytes::NoMemory;
 use lt_world::{MemFiles, MemTexts, Sink};
@@ -42,7 +45,7 @@ pub fn bench<S: Sink>(
     ensures says { BenchSays result }
     ensures line { IsOfLine result }
     ensures runs { IsRefusal result → ⊥ }
-    ensures faults { (texts_before texts_after : ℕ) → FaultsSay result texts_before texts_after (S.faults sink.old) (S.faults sink.new) }
+    ensures faults { (texts patterns : ℕ) → FaultsSay result (failures texts patterns (S.faults sink.old)) (failures texts patterns (S.faults sink.new)) }
     ensures memory { MemorySays result net.new.last }
     ensures serves { ServesSome result (asked_of files.new) net.new.game.trace }
     ensures benched { ServesBench clients result (asked_of files.new) net.new.game.trace }
@@ -62,12 +65,14 @@ fn bench_conf(alloc: Global) -> Result<Loaded, NoMemory>
     ensures conf { IfOk result (λ loaded. HasConf bench_texts bench_name loaded) }
     ensures only { (loaded : Loaded) → HasConf bench_texts bench_name loaded → IfOk result (λ found. found ≡ loaded) }
     ensures in_form { IfOk result (λ loaded. IsInForm loaded.config) }
+    ensures patterns { IfOk result (λ loaded. ArePatterns loaded.config.blocks loaded.patterns) }
 {
     let mut texts = MemTexts::new(alloc);
     texts.add(NAME.as_bytes(), TEXT)?;
-    match load_conf(alloc, NAME, &mut texts) {
+    let mut maker = RegexMaker::new(alloc);
+    match load_conf(alloc, NAME, &mut texts, &mut maker) {
         Ok(loaded) => Ok(loaded),
-        // The text is there, can be read and has no fault: it is memory that is wanted.
+        // The text is there, can be read, has no fault and names no pattern: it is memory that is wanted.
         Err(_) => Err(NoMemory),
     }
 }

@@ -7,10 +7,12 @@ ghost use Rattle.script_gen.specs.Totals.{summary_of};
 ghost use Rattle.conf_parse.specs.declared.tree.Tree.{Tree};
 ghost use Rattle.conf_parse.specs.Print.{printed};
 ghost use Rattle.lt_commands.specs.Runs.{asked_of};
-ghost use Rattle.lt_commands.specs.Words.{Line, SpellsLine, Replay as replay_line, Bench as bench_line};
+ghost use Rattle.lt_commands.specs.Words.{Line, SpellsLine, Replay as replay_line, Print as print_line, Bench as bench_line};
 ghost use Rattle.lt_commands.specs.Loading.{HasConf, HasSomeConf};
 ghost use Rattle.lt_commands.specs.Printing.{HasTree};
 ghost use Rattle.lt_commands.specs.Offline.{CheckSays, Completes, FaultsSay, HasSomeScript, HasSomeTree, IsComplete, IsCompleteLoad, IsOfLine, IsQuiet, IsRefusal, LineSays, MemorySays, PrintSays, PutsOut, ReplaySays, SinkSays, WordsSay};
+ghost use Rattle.lt_commands.specs.Failures.{failures};
+ghost use Rattle.conf_eval.specs.Answers.{kept};
 ghost use Rattle.lt_commands.specs.Fetching.{CheckAsks, LineAsks, PrintAsks, ReplayAsks};
 ghost use Rattle.lt_commands.specs.Serving.{ServesBench, ServesSome, ServesSpelled};
 ghost use Rattle.lt_commands.specs.Warnings.{checked};
@@ -24,6 +26,7 @@ use crate::reading::read_script;
 use crate::status::Status;
 use crate::warnings::load_warned;
 use crate::words::{Call, read_words};
+use conditions::PatternMaker;
 use conf_parse::print;
 use lt_world::{MemFiles, Sink, Texts};
 use script_net::{ScriptNet, write_all};
@@ -35,10 +38,11 @@ use std::alloc::Global;
 /// and writes its warnings; `[-D] -p -f CONF` writes its printed form; `bench NUMBER` serves so many clients of a script that
 /// is generated for them, and writes the summary. What cannot be done is the first of: the words, the
 /// configuration, the script, the output.
-pub fn offline<X: Texts, S: Sink>(
+pub fn offline<X: Texts, M: PatternMaker, S: Sink>(
     alloc: Global,
     words: &[String],
     texts: &mut X,
+    maker: &mut M,
     net: &mut ScriptNet,
     files: &mut MemFiles,
     sink: &mut S,
@@ -48,8 +52,8 @@ pub fn offline<X: Texts, S: Sink>(
 
     ensures words { WordsSay result (map string_bytes words.now) }
     ensures texts { X.tells → (line : Line) → SpellsLine (map string_bytes words.now) line → LineSays result line (X.texts texts.old) }
-    ensures asks { X.tells → (line : Line) → SpellsLine (map string_bytes words.now) line → LineAsks result line (X.texts texts.old) (X.calls texts.old) (X.calls texts.new) }
-    ensures faults { FaultsSay result (X.faults texts.old) (X.faults texts.new) (S.faults sink.old) (S.faults sink.new) }
+    ensures asks { X.tells → (line : Line) → SpellsLine (map string_bytes words.now) line → LineAsks result line (X.texts texts.old) (kept (X.calls texts.old) (M.calls maker.old)) (kept (X.calls texts.new) (M.calls maker.new)) }
+    ensures faults { FaultsSay result (failures (X.faults texts.old) (M.refusals maker.old) (S.faults sink.old)) (failures (X.faults texts.new) (M.refusals maker.new) (S.faults sink.new)) }
     ensures memory { MemorySays result net.new.last }
 
     // With good words and texts the call is done, unless something fails or memory is wanted.
@@ -71,35 +75,37 @@ pub fn offline<X: Texts, S: Sink>(
         → SinkSays result (report_of net.new.game.trace) (S.bytes sink.old) (S.bytes sink.new) }
 
     // A benchmark run serves the clients of the script that is generated for so many, and puts out the summary of what
-    // the net told. It asks for no text.
+    // the net told. It asks for no text and no pattern, and a print asks for no pattern.
     ensures benched { (clients : ℕ) → SpellsLine (map string_bytes words.now) (bench_line clients) → ServesBench clients result (asked_of files.new) net.new.game.trace }
     ensures summed { S.tells → (clients : ℕ) → SpellsLine (map string_bytes words.now) (bench_line clients)
         → SinkSays result (summary_of net.new.game.trace) (S.bytes sink.old) (S.bytes sink.new) }
-    ensures unread { (clients : ℕ) → SpellsLine (map string_bytes words.now) (bench_line clients) → texts.new ≡ texts.old }
+    ensures unread { (clients : ℕ) → SpellsLine (map string_bytes words.now) (bench_line clients) → (texts.new ≡ texts.old) × (maker.new ≡ maker.old) }
+    ensures unmade { (conf : List ℕ) → SpellsLine (map string_bytes words.now) (print_line conf) → maker.new ≡ maker.old }
 
     // A check puts out the warnings, a print the printed form.
     ensures prints { S.tells → X.tells → (line : Line) (output : List ℕ) → SpellsLine (map string_bytes words.now) line
         → PutsOut line (X.texts texts.old) output → SinkSays result output (S.bytes sink.old) (S.bytes sink.new) }
 
     // Words that are no line change nothing.
-    ensures usage { result ≡ Status.Usage → (texts.new ≡ texts.old) × (net.new ≡ net.old) × (files.new ≡ files.old) × (sink.new ≡ sink.old) }
+    ensures usage { result ≡ Status.Usage → (texts.new ≡ texts.old) × (maker.new ≡ maker.old) × (net.new ≡ net.old) × (files.new ≡ files.old) × (sink.new ≡ sink.old) }
 {
     match read_words(alloc, words) {
         Err(status) => status,
         Ok(Call::Replay { conf, script }) => {
-            replay(alloc, conf, script, texts, net, files, sink)
+            replay(alloc, conf, script, texts, maker, net, files, sink)
         }
-        Ok(Call::Check { conf }) => check_conf(alloc, conf, texts, sink),
+        Ok(Call::Check { conf }) => check_conf(alloc, conf, texts, maker, sink),
         Ok(Call::Print { conf }) => print_conf(alloc, conf, texts, sink),
         Ok(Call::Bench { clients }) => bench(alloc, clients, net, files, sink),
     }
 }
 
-fn replay<X: Texts, S: Sink>(
+fn replay<X: Texts, M: PatternMaker, S: Sink>(
     alloc: Global,
     conf: &str,
     script: &str,
     texts: &mut X,
+    maker: &mut M,
     net: &mut ScriptNet,
     files: &mut MemFiles,
     sink: &mut S,
@@ -108,8 +114,8 @@ fn replay<X: Texts, S: Sink>(
     requires files { files.old ≡ no_files }
     ensures line { IsOfLine result }
     ensures texts { X.tells → ReplaySays result (X.texts texts.old) conf.now script.now }
-    ensures asks { X.tells → ReplayAsks result conf.now script.now (X.texts texts.old) (X.calls texts.old) (X.calls texts.new) }
-    ensures faults { FaultsSay result (X.faults texts.old) (X.faults texts.new) (S.faults sink.old) (S.faults sink.new) }
+    ensures asks { X.tells → ReplayAsks result conf.now script.now (X.texts texts.old) (kept (X.calls texts.old) (M.calls maker.old)) (kept (X.calls texts.new) (M.calls maker.new)) }
+    ensures faults { FaultsSay result (failures (X.faults texts.old) (M.refusals maker.old) (S.faults sink.old)) (failures (X.faults texts.new) (M.refusals maker.new) (S.faults sink.new)) }
     ensures memory { MemorySays result net.new.last }
     ensures complete { X.tells → HasSomeConf (X.texts texts.old) conf.now → HasSomeScript (X.texts texts.old script.now) → IsCompleteLoad result }
     ensures serves { ServesSome result (asked_of files.new) net.new.game.trace }
@@ -117,7 +123,7 @@ fn replay<X: Texts, S: Sink>(
     ensures refused { IsRefusal result → (net.new ≡ net.old) × (files.new ≡ files.old) }
     ensures report { S.tells → SinkSays result (report_of net.new.game.trace) (S.bytes sink.old) (S.bytes sink.new) }
 {
-    let loaded = match load_conf(alloc, conf, texts) {
+    let loaded = match load_conf(alloc, conf, texts, maker) {
         Ok(loaded) => loaded,
         Err(status) => return status,
     };
@@ -128,15 +134,21 @@ fn replay<X: Texts, S: Sink>(
     play(alloc, &loaded, &script, Output::Report, net, files, sink)
 }
 
-fn check_conf<X: Texts, S: Sink>(alloc: Global, conf: &str, texts: &mut X, sink: &mut S) -> Status
+fn check_conf<X: Texts, M: PatternMaker, S: Sink>(
+    alloc: Global,
+    conf: &str,
+    texts: &mut X,
+    maker: &mut M,
+    sink: &mut S,
+) -> Status
     ensures line { IsOfLine result }
     ensures texts { X.tells → CheckSays result (X.texts texts.old) conf.now }
-    ensures asks { X.tells → CheckAsks result conf.now (X.texts texts.old) (X.calls texts.old) (X.calls texts.new) }
-    ensures faults { FaultsSay result (X.faults texts.old) (X.faults texts.new) (S.faults sink.old) (S.faults sink.new) }
+    ensures asks { X.tells → CheckAsks result conf.now (X.texts texts.old) (kept (X.calls texts.old) (M.calls maker.old)) (kept (X.calls texts.new) (M.calls maker.new)) }
+    ensures faults { FaultsSay result (failures (X.faults texts.old) (M.refusals maker.old) (S.faults sink.old)) (failures (X.faults texts.new) (M.refusals maker.new) (S.faults sink.new)) }
     ensures complete { X.tells → HasSomeConf (X.texts texts.old) conf.now → IsCompleteLoad result }
     ensures prints { S.tells → X.tells → (loaded : Loaded) → HasConf (X.texts texts.old) conf.now loaded → SinkSays result (checked loaded) (S.bytes sink.old) (S.bytes sink.new) }
 {
-    match load_warned(alloc, conf, texts, sink) {
+    match load_warned(alloc, conf, texts, maker, sink) {
         Ok(_) => match write_all(sink, b"Syntax OK\n") {
             Ok(()) => Status::Done,
             Err(_) => Status::SinkFault,
@@ -149,7 +161,7 @@ fn print_conf<X: Texts, S: Sink>(alloc: Global, conf: &str, texts: &mut X, sink:
     ensures line { IsOfLine result }
     ensures texts { X.tells → PrintSays result (X.texts texts.old conf.now) }
     ensures asks { X.tells → PrintAsks result conf.now (X.calls texts.old) (X.calls texts.new) }
-    ensures faults { FaultsSay result (X.faults texts.old) (X.faults texts.new) (S.faults sink.old) (S.faults sink.new) }
+    ensures faults { (patterns : ℕ) → FaultsSay result (failures (X.faults texts.old) patterns (S.faults sink.old)) (failures (X.faults texts.new) patterns (S.faults sink.new)) }
     ensures complete { X.tells → HasSomeTree (X.texts texts.old conf.now) → IsComplete result }
     ensures prints { S.tells → X.tells → (tree : Tree) → HasTree (X.texts texts.old conf.now) tree → SinkSays result (printed tree) (S.bytes sink.old) (S.bytes sink.new) }
 {

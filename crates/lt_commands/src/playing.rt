@@ -1,9 +1,11 @@
 //! A script is played: it is put where it plays, its clients are served, and what they took is put out.
-ghost use Rattle.std.specs.Prelude.{◌≡◌, ◌≤◌, ℕ, List, [], None, OnOk, OnErr};
+ghost use Rattle.std.specs.Prelude.{◌≡◌, ◌<◌, ◌≤◌, ℕ, List, [], None, OnOk, OnErr};
 ghost use Rattle.lt_world.specs.Disk.{Disk};
 ghost use Rattle.lt_world.specs.Memory.{no_files, tree_of};
 ghost use Rattle.lt_world.specs.Causes.{Rose};
 ghost use Rattle.lt_world.specs.FileRuns.{Leads};
+ghost use Rattle.settings.specs.InForm.{IsInForm};
+ghost use Rattle.conf_eval.specs.Patterns.{ArePatterns};
 ghost use Rattle.script_net.specs.Loads.{planted};
 ghost use Rattle.script_net.specs.Playing.{unplayed, prepared, IsLater};
 ghost use Rattle.script_net.specs.Steps.{events_left};
@@ -23,7 +25,9 @@ ghost use Rattle.lt_commands.specs.Outputs.{output_of};
 ghost use Rattle.lt_commands.specs.Serving.{ServesBy};
 
 use crate::run::{Finish, run};
+use crate::serving::server_of;
 use crate::status::Status;
+use conditions::Steps;
 use conf_eval::Loaded;
 use lt_bytes::NoMemory;
 use lt_script::Script;
@@ -32,6 +36,8 @@ use script_gen::summary;
 use script_net::{ScriptNet, plan_files, report};
 use server_core::Server;
 use std::alloc::Global;
+use std::marker::Brand;
+use std::sync::ledger::{Blank, Ledger};
 
 /// What is put out of a play.
 #[derive(Clone, Copy, Debug)]
@@ -55,6 +61,8 @@ pub fn play<S: Sink>(
     requires net { net.old ≡ unplayed [] }
     requires files { files.old ≡ no_files }
     requires spelled { (bytes : List ℕ) × Spells bytes script.now }
+    requires form { IsInForm loaded.now.config }
+    requires patterns { ArePatterns loaded.now.config.blocks loaded.now.patterns }
     ensures serves { ServesBy loaded.now script.now result (asked_of files.new) net.new.game.trace }
     ensures ends { PlaySays result net.new.last }
     ensures output { S.tells → SinkSays result (output_of output net.new.game.trace) (S.bytes sink.old) (S.bytes sink.new) }
@@ -63,7 +71,7 @@ pub fn play<S: Sink>(
     if begin(script, net, files).is_err() {
         return Status::NoMemory;
     }
-    match Server::new(alloc, &loaded.config) {
+    match server_of(alloc, loaded) {
         Ok(server) => play_begun(server, output, net, files, sink),
         Err(_) => Status::NoMemory,
     }
@@ -115,7 +123,7 @@ fn play_begun<S: Sink>(
     }
 }
 
-// Takes turns until the net is over, and ends the server.
+// Takes turns until the net is over, and ends the server. Nobody asks how many conditions were compared.
 fn serve(server: Server<'_>, net: &mut ScriptNet, files: &mut MemFiles) -> Finish
     requires fresh { AreFresh files.old }
     requires begins { net.old.game.trace ≡ [] }
@@ -128,8 +136,33 @@ fn serve(server: Server<'_>, net: &mut ScriptNet, files: &mut MemFiles) -> Finis
     ensures over { result ≡ Finish.Over → events_left net.new.game.left ≡ 0 }
     ensures later { IsLater net.old net.new }
 {
+    serve_counted::<Brand>(Blank::new(1), server, net, files)
+}
+
+// The same, by a ledger that was opened for the count of comparisons alone.
+fn serve_counted<L: Ledger>(
+    blank: Blank,
+    server: Server<'_>,
+    net: &mut ScriptNet,
+    files: &mut MemFiles,
+) -> Finish
+    requires name { blank.name ≡ L.name }
+    requires parts { blank.parts ≡ L.parts }
+    requires some { 0 < L.parts }
+    requires fresh { AreFresh files.old }
+    requires begins { net.old.game.trace ≡ [] }
+    requires table { (links : ℕ) → IsTable links server.table }
+    requires backs { (disk : Disk) → Backs disk.table server.table }
+    requires serves { (disk : Disk) → disk.calls ≡ [] → ((file : ℕ) → disk.table file ≡ None) → Serves disk (serving_at server) [] }
+    ensures serves { Served server.entry.site (tree_of files.old) (asked_of files.new) net.new.game.trace }
+    ensures last { FinishFits result net.new.last }
+    ensures leads { Leads files.old files.new }
+    ensures over { result ≡ Finish.Over → events_left net.new.game.left ≡ 0 }
+    ensures later { IsLater net.old net.new }
+{
     let mut server = server;
-    let finish = run(&mut server, net, files);
+    let mut steps: Steps<L> = Steps::new(blank);
+    let finish = run(&mut server, net, files, &mut steps);
     server.close(files);
     finish
 }

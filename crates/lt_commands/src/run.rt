@@ -6,8 +6,10 @@ ghost use Rattle.server_core.specs.Within.{serving_at};
 ghost use Rattle.server_model.specs.Runs.{IsRun};
 ghost use Rattle.lt_commands.specs.Runs.{FinishFits, told_as};
 
+use conditions::Steps;
 use lt_world::{Files, Net};
 use server_core::{Server, Turn};
+use std::sync::ledger::Ledger;
 
 /// Why no further turn is taken.
 #[derive(Clone, Copy, Debug, PartialEq, Eq)]
@@ -17,7 +19,12 @@ pub enum Finish {
 }
 
 /// Takes turns until the net is over, or has no memory for its next event.
-pub fn run<N: Net, F: Files>(server: &mut Server<'_>, net: &mut N, files: &mut F) -> Finish
+pub fn run<N: Net, F: Files, L: Ledger>(
+    server: &mut Server<'_>,
+    net: &mut N,
+    files: &mut F,
+    steps: &mut Steps<L>,
+) -> Finish
     requires ends { N.ends }
     requires table { IsTable (N.links net.old) server.old.table }
     requires backs { F.tells → Backs (F.disk files.old).table server.old.table }
@@ -34,7 +41,7 @@ pub fn run<N: Net, F: Files>(server: &mut Server<'_>, net: &mut N, files: &mut F
     ensures faults { F.faults files.old ≤ F.faults files.new }
 {
     loop {
-        match server.turn(net, files) {
+        match server.turn(net, files, steps) {
             Turn::Did => {}
             Turn::Idle => {}
             Turn::Over => return Finish::Over,

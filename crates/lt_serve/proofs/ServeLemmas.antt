@@ -3,16 +3,17 @@ use Rattle.std.proofs.Common.{◌≡◌, ◌≤◌, ℕ, ◌++◌, List, [], ap,
 use Rattle.lt_world.specs.Causes.{Rose}
 use Rattle.lt_world.specs.declared.net.NextKind.{NextKind}
 use Rattle.lt_world.specs.declared.net.NextKind.TheVariants as kind
-use Rattle.lt_world.specs.declared.texts.Fetch.{Fetch}
 use Rattle.lt_world.specs.TextAnswers.{Library}
 use Rattle.lt_commands.specs.declared.status.Status.{Status}
 use Rattle.lt_commands.specs.declared.status.Status.TheVariants as status
+use Rattle.lt_commands.specs.Failures.{Failures}
 use Rattle.lt_commands.specs.Fetching.{AsksConf, CheckAsks}
 use Rattle.lt_commands.specs.Loading.{HasSomeConf}
-use Rattle.lt_commands.specs.Offline.{CheckSays, IsCompleteLoad, SinkSays}
+use Rattle.conf_eval.specs.Calls.{Calls}
+use Rattle.lt_commands.specs.Offline.{CheckSays, FaultsSay, IsCompleteLoad, SinkSays}
 use Rattle.lt_commands.specs.Warned.{WarnedFaults}
 use Rattle.command_words.specs.Lines.{Serve}
-use Rattle.lt_serve.specs.Serving.{SpellsServe, WordsSay, IsNoServe, TextsSay, Asks, LoadedEnds, Ends, IsRefusal, FaultsSay, GotSome, SaidTo, IsComplete, IsOfServe}
+use Rattle.lt_serve.specs.Serving.{SpellsServe, WordsSay, IsNoServe, TextsSay, Asks, LoadedEnds, Ends, IsRefusal, GotSome, SaidTo, IsComplete, IsOfServe}
 
 -- ---- a configuration was loaded, and served by
 
@@ -41,7 +42,7 @@ module _ (last : NextKind) (waits waited : ℕ) where
   loaded_texts status.ListenFault library conf ends has = has
   loaded_texts status.WaitFault library conf ends has = has
 
-  pub loaded_asks : (answer : Status) (conf : List ℕ) (library : Library) (before after : List Fetch) → LoadedEnds answer last waits waited → AsksConf conf library before after → Asks answer conf library before after
+  pub loaded_asks : (answer : Status) (conf : List ℕ) (library : Library) (before after : Calls) → LoadedEnds answer last waits waited → AsksConf conf library before after → Asks answer conf library before after
   loaded_asks status.Usage conf library before after ends asks = ends
   loaded_asks status.Done conf library before after ends asks = asks
   loaded_asks (status.Conf fault) conf library before after ends asks = absurd ends
@@ -78,17 +79,17 @@ module _ (last : NextKind) (waits waited : ℕ) where
   loaded_complete status.WaitFault ends = tt
 
   -- the sink fails as it is told where the server listens, or before
-  pub loaded_faults : (answer : Status) (texts texts_now before mid after : ℕ) → LoadedEnds answer last waits waited → before ≤ mid → (answer ≡ status.SinkFault → Rose mid after) → FaultsSay answer texts texts_now before after
-  loaded_faults status.Usage texts texts_now before mid after ends more rose = tt
-  loaded_faults status.Done texts texts_now before mid after ends more rose = tt
-  loaded_faults (status.Conf fault) texts texts_now before mid after ends more rose = absurd ends
-  loaded_faults (status.Script line) texts texts_now before mid after ends more rose = tt
-  loaded_faults status.TextFault texts texts_now before mid after ends more rose = absurd ends
-  loaded_faults status.SinkFault texts texts_now before mid after ends more rose = let here = rose refl in grind (arith, more, here)
-  loaded_faults status.NoMemory texts texts_now before mid after ends more rose = tt
-  loaded_faults (status.Missing number) texts texts_now before mid after ends more rose = tt
-  loaded_faults status.ListenFault texts texts_now before mid after ends more rose = tt
-  loaded_faults status.WaitFault texts texts_now before mid after ends more rose = tt
+  pub loaded_faults : (answer : Status) (mid : ℕ) (before after : Failures) → LoadedEnds answer last waits waited → before.sink ≤ mid → (answer ≡ status.SinkFault → Rose mid after.sink) → FaultsSay answer before after
+  loaded_faults status.Usage mid before after ends more rose = tt
+  loaded_faults status.Done mid before after ends more rose = tt
+  loaded_faults (status.Conf fault) mid before after ends more rose = absurd ends
+  loaded_faults (status.Script line) mid before after ends more rose = tt
+  loaded_faults status.TextFault mid before after ends more rose = absurd ends
+  loaded_faults status.SinkFault mid before after ends more rose = let here = rose refl in grind (arith, more, here)
+  loaded_faults status.NoMemory mid before after ends more rose = tt
+  loaded_faults (status.Missing number) mid before after ends more rose = tt
+  loaded_faults status.ListenFault mid before after ends more rose = tt
+  loaded_faults status.WaitFault mid before after ends more rose = tt
 
   -- of those that refuse, only a sink that fails comes here
   pub loaded_refused : (P : Type 0) (answer : Status) → LoadedEnds answer last waits waited → (answer ≡ status.SinkFault → P) → IsRefusal answer → P
@@ -129,8 +130,8 @@ nothing_got text before after same = ([], text, refl, same ∙ sym (append-nil b
 
 -- ---- no configuration was loaded
 
-module _ (texts texts_now sink sink_now : ℕ) where
-  pub refused_line : (answer : Status) → WarnedFaults (Err answer) texts texts_now sink sink_now → IsOfServe answer
+module _ (failed fails : Failures) where
+  pub refused_line : (answer : Status) → WarnedFaults (Err answer) failed fails → IsOfServe answer
   refused_line status.Usage cause = absurd cause
   refused_line status.Done cause = tt
   refused_line (status.Conf fault) cause = tt
@@ -142,7 +143,7 @@ module _ (texts texts_now sink sink_now : ℕ) where
   refused_line status.ListenFault cause = tt
   refused_line status.WaitFault cause = tt
 
-  pub refused_faults : (answer : Status) → WarnedFaults (Err answer) texts texts_now sink sink_now → FaultsSay answer texts texts_now sink sink_now
+  pub refused_faults : (answer : Status) → WarnedFaults (Err answer) failed fails → FaultsSay answer failed fails
   refused_faults status.Usage cause = tt
   refused_faults status.Done cause = tt
   refused_faults (status.Conf fault) cause = cause
@@ -154,7 +155,7 @@ module _ (texts texts_now sink sink_now : ℕ) where
   refused_faults status.ListenFault cause = tt
   refused_faults status.WaitFault cause = tt
 
-  pub refused_ends : (answer : Status) (last : NextKind) (waits waited : ℕ) → WarnedFaults (Err answer) texts texts_now sink sink_now → last ≡ kind.NoneYet → Ends answer last waits waited
+  pub refused_ends : (answer : Status) (last : NextKind) (waits waited : ℕ) → WarnedFaults (Err answer) failed fails → last ≡ kind.NoneYet → Ends answer last waits waited
   refused_ends status.Usage last waits waited cause unasked = unasked
   refused_ends status.Done last waits waited cause unasked = absurd cause
   refused_ends (status.Conf fault) last waits waited cause unasked = unasked
@@ -167,7 +168,7 @@ module _ (texts texts_now sink sink_now : ℕ) where
   refused_ends status.WaitFault last waits waited cause unasked = absurd cause
 
   -- the sink has the front of the warnings, where it failed, and nothing else
-  pub refused_says : (answer : Status) (a b before after : List ℕ) → WarnedFaults (Err answer) texts texts_now sink sink_now → SinkSays answer a before after → SaidTo answer (a ++ b) before after
+  pub refused_says : (answer : Status) (a b before after : List ℕ) → WarnedFaults (Err answer) failed fails → SinkSays answer a before after → SaidTo answer (a ++ b) before after
   refused_says status.Usage a b before after cause says = says
   refused_says status.Done a b before after cause says = absurd cause
   refused_says (status.Conf fault) a b before after cause says = says
@@ -192,7 +193,7 @@ refused_texts (status.Missing number) library conf says = says
 refused_texts status.ListenFault library conf says = absurd says
 refused_texts status.WaitFault library conf says = absurd says
 
-pub refused_asks : (answer : Status) (conf : List ℕ) (library : Library) (before after : List Fetch) → CheckAsks answer conf library before after → Asks answer conf library before after
+pub refused_asks : (answer : Status) (conf : List ℕ) (library : Library) (before after : Calls) → CheckAsks answer conf library before after → Asks answer conf library before after
 refused_asks status.Usage conf library before after asks = asks
 refused_asks status.Done conf library before after asks = asks
 refused_asks (status.Conf fault) conf library before after asks = asks
@@ -255,23 +256,23 @@ wordless_ends (status.Missing number) words last waits waited none unasked = abs
 wordless_ends status.ListenFault words last waits waited none unasked = absurd none
 wordless_ends status.WaitFault words last waits waited none unasked = absurd none
 
-pub wordless_faults : (answer : Status) (words : List (List ℕ)) (texts texts_now sink sink_now : ℕ) → IsNoServe answer words → FaultsSay answer texts texts_now sink sink_now
-wordless_faults status.Usage words texts texts_now sink sink_now none = tt
-wordless_faults status.NoMemory words texts texts_now sink sink_now none = tt
-wordless_faults status.Done words texts texts_now sink sink_now none = absurd none
-wordless_faults (status.Conf fault) words texts texts_now sink sink_now none = absurd none
-wordless_faults (status.Script line) words texts texts_now sink sink_now none = absurd none
-wordless_faults status.TextFault words texts texts_now sink sink_now none = absurd none
-wordless_faults status.SinkFault words texts texts_now sink sink_now none = absurd none
-wordless_faults (status.Missing number) words texts texts_now sink sink_now none = absurd none
-wordless_faults status.ListenFault words texts texts_now sink sink_now none = absurd none
-wordless_faults status.WaitFault words texts texts_now sink sink_now none = absurd none
+pub wordless_faults : (answer : Status) (words : List (List ℕ)) (before after : Failures) → IsNoServe answer words → FaultsSay answer before after
+wordless_faults status.Usage words before after none = tt
+wordless_faults status.NoMemory words before after none = tt
+wordless_faults status.Done words before after none = absurd none
+wordless_faults (status.Conf fault) words before after none = absurd none
+wordless_faults (status.Script line) words before after none = absurd none
+wordless_faults status.TextFault words before after none = absurd none
+wordless_faults status.SinkFault words before after none = absurd none
+wordless_faults (status.Missing number) words before after none = absurd none
+wordless_faults status.ListenFault words before after none = absurd none
+wordless_faults status.WaitFault words before after none = absurd none
 
 -- with such words, texts were not asked for, the texts spell what they may, and nothing was put out
 pub wordless_texts : (answer : Status) (library : Library) (conf : List ℕ) → answer ≡ status.NoMemory → TextsSay answer library conf
 wordless_texts answer library conf is = subst (λ (s : Status). TextsSay s library conf) (sym is) tt
 
-pub wordless_asks : (answer : Status) (conf : List ℕ) (library : Library) (calls : List Fetch) → answer ≡ status.NoMemory → Asks answer conf library calls calls
+pub wordless_asks : (answer : Status) (conf : List ℕ) (library : Library) (calls : Calls) → answer ≡ status.NoMemory → Asks answer conf library calls calls
 wordless_asks answer conf library calls is = subst (λ (s : Status). Asks s conf library calls calls) (sym is) (inl refl)
 
 pub wordless_complete : (answer : Status) → answer ≡ status.NoMemory → IsComplete answer

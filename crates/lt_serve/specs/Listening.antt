@@ -1,21 +1,17 @@
 -- Where a server listens (lighttpd documentation, `server.bind` and `server.port`), and what it puts out of it.
-use Rattle.std.specs.Prelude.{List, map, get_or, ◌++◌, codes, ℕ}
+use Rattle.std.specs.Prelude.{List, get_or, ◌++◌, codes, ℕ}
 use Rattle.std.specs.Fmt.{decimal}
 use Rattle.conf_value.specs.declared.block.Block.{Block}
-use Rattle.conf_value.specs.declared.truth.Truth.{Truth}
-use Rattle.conf_value.specs.declared.truth.Truth.TheVariants.{True}
-use Rattle.settings.specs.Used.{Values, values_of}
+use Rattle.settings.specs.Indexed.{global_alone}
+use Rattle.settings.specs.Used.{Values, values_where}
 use Rattle.lt_world.specs.declared.net.Address.{Address}
-
--- each block holds: the two keys count in the global block alone, whatever the others are
-abbrev pub all_true : List Block → List Truth
-all_true blocks = map (λ block. True) blocks
 
 abbrev pub bound_at : Values → Address
 bound_at values = record { ip = values.server_bind; port = values.server_port }
 
+-- the two keys count in the global block alone
 abbrev pub address_of : List Block → Address
-address_of blocks = bound_at (values_of blocks (all_true blocks))
+address_of blocks = bound_at (values_where blocks global_alone)
 
 -- `IP:PORT`
 abbrev pub address_text : Address → List ℕ

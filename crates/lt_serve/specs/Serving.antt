@@ -3,18 +3,17 @@ use Rattle.std.specs.Prelude.{◌≡◌, ℕ, ◌⊎◌, ◌++◌, List, Some, N
 use Rattle.lt_world.specs.Causes.{Rose}
 use Rattle.lt_world.specs.declared.net.NextKind.{NextKind}
 use Rattle.lt_world.specs.declared.net.NextKind.TheVariants as kind
-use Rattle.lt_world.specs.declared.texts.Fetch.{Fetch}
 use Rattle.lt_world.specs.TextAnswers.{Library}
 use Rattle.lt_world.specs.Trace.{Entry}
 use Rattle.settings.specs.InForm.{IsInForm}
 use Rattle.conf_eval.specs.declared.fault.Loaded.{Loaded}
-use Rattle.conf_eval.specs.declared.fault.ConfKind.TheVariants as cause
 use Rattle.server_model.specs.Site.{site_at}
 use Rattle.server_model.specs.Turns.{Seen}
 use Rattle.lt_commands.specs.declared.status.Status.{Status}
 use Rattle.lt_commands.specs.declared.status.Status.TheVariants as status
 use Rattle.lt_commands.specs.Fetching.{AsksConf}
-use Rattle.lt_commands.specs.Loading.{HasSomeConf, HasFault, LoadsAs}
+use Rattle.lt_commands.specs.Loading.{HasSomeConf, HasFault, IsOutside, LoadsAs}
+use Rattle.conf_eval.specs.Calls.{Calls}
 use Rattle.lt_commands.specs.Warnings.{warning_lines}
 use Rattle.command_words.specs.Lines.{line_of, Serve}
 use Rattle.lt_serve.specs.Listening.{address_of, listening_line}
@@ -48,8 +47,8 @@ TextsSay status.TextFault library conf = Unit {0}
 TextsSay status.NoMemory library conf = Unit {0}
 TextsSay other library conf = ⊥
 
--- which texts are asked for: those of the configuration
-abbrev pub Asks : Status → List ℕ → Library → List Fetch → List Fetch → Type 0
+-- which texts and patterns are asked for: those of the configuration
+abbrev pub Asks : Status → List ℕ → Library → Calls → Calls → Type 0
 Asks (status.Missing number) conf library before after = LoadsAs (Err (status.Missing number)) conf library before after
 Asks (status.Conf fault) conf library before after = LoadsAs (Err (status.Conf fault)) conf library before after
 Asks status.TextFault conf library before after = LoadsAs (Err status.TextFault) conf library before after
@@ -97,13 +96,6 @@ abbrev pub IsRefusal : Status → Type 0
 IsRefusal status.ListenFault = ⊥
 IsRefusal other = IsUnasked other
 
--- a fault is answered only where the count of what failed rose
-abbrev pub FaultsSay : Status → ℕ → ℕ → ℕ → ℕ → Type 0
-FaultsSay status.TextFault texts_before texts_after sink_before sink_after = Rose texts_before texts_after
-FaultsSay (status.Conf fault) texts_before texts_after sink_before sink_after = fault.kind ≡ cause.TextFault → Rose texts_before texts_after
-FaultsSay status.SinkFault texts_before texts_after sink_before sink_after = Rose sink_before sink_after
-FaultsSay other texts_before texts_after sink_before sink_after = Unit {0}
-
 -- the sink got a front of a text
 abbrev pub GotSome : List ℕ → List ℕ → List ℕ → Type 0
 GotSome text before after = (front rest : List ℕ) × (text ≡ front ++ rest) × (after ≡ before ++ front)
@@ -127,7 +119,7 @@ abbrev pub IsComplete : Status → Type 0
 IsComplete status.Done = Unit {0}
 IsComplete status.NoMemory = Unit {0}
 IsComplete status.TextFault = Unit {0}
-IsComplete (status.Conf fault) = fault.kind ≡ cause.TextFault
+IsComplete (status.Conf fault) = IsOutside fault.kind
 IsComplete status.SinkFault = Unit {0}
 IsComplete status.ListenFault = Unit {0}
 IsComplete status.WaitFault = Unit {0}

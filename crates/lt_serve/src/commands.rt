@@ -3,12 +3,16 @@ ghost use Rattle.std.specs.Prelude.{◌≡◌, ◌≤◌, ◌⊎◌, ℕ, List, 
 ghost use Rattle.conf_eval.specs.declared.fault.Loaded.{Loaded};
 ghost use Rattle.server_model.specs.Site.{site_at};
 ghost use Rattle.server_core.specs.Steps.{seen_as};
+ghost use Rattle.lt_commands.specs.Failures.{failures};
 ghost use Rattle.lt_commands.specs.Loading.{HasConf, HasSomeConf};
-ghost use Rattle.lt_serve.specs.Serving.{SpellsServe, WordsSay, IsNoServe, TextsSay, Asks, Ends, IsRefusal, IsUnasked, FaultsSay, SaidTo, announced, IsComplete, IsOfServe, ServedBySome};
+ghost use Rattle.conf_eval.specs.Answers.{kept};
+ghost use Rattle.lt_commands.specs.Offline.{FaultsSay};
+ghost use Rattle.lt_serve.specs.Serving.{SpellsServe, WordsSay, IsNoServe, TextsSay, Asks, Ends, IsRefusal, IsUnasked, SaidTo, announced, IsComplete, IsOfServe, ServedBySome};
 ghost use Rattle.lt_serve.specs.Served.{Served};
 
 use crate::loaded::serve_loaded;
 use command_words::{Line, WordsError, read_line};
+use conditions::PatternMaker;
 use lt_commands::{Status, load_warned};
 use lt_world::{Files, NextKind, Sink, Texts, Waits};
 use std::alloc::Global;
@@ -18,11 +22,12 @@ use std::sync::Wait;
 ///
 /// The first that cannot be done is answered: the words, the configuration, its warnings and the address on the sink, to
 /// listen, to wait for the next event. Over a net of real sockets the call goes on until it is ended from outside.
-pub fn serve<R: Wait, X: Texts, N: Waits, F: Files, S: Sink>(
+pub fn serve<R: Wait, X: Texts, M: PatternMaker, N: Waits, F: Files, S: Sink>(
     rt: &R,
     alloc: Global,
     words: &[String],
     texts: &mut X,
+    maker: &mut M,
     net: &mut N,
     files: &mut F,
     sink: &mut S,
@@ -34,8 +39,8 @@ pub fn serve<R: Wait, X: Texts, N: Waits, F: Files, S: Sink>(
 
     ensures words { WordsSay result (map string_bytes words.now) }
     ensures texts { X.tells → (conf : List ℕ) → SpellsServe (map string_bytes words.now) conf → TextsSay result (X.texts texts.old) conf }
-    ensures asks { X.tells → (conf : List ℕ) → SpellsServe (map string_bytes words.now) conf → Asks result conf (X.texts texts.old) (X.calls texts.old) (X.calls texts.new) }
-    ensures faults { FaultsSay result (X.faults texts.old) (X.faults texts.new) (S.faults sink.old) (S.faults sink.new) }
+    ensures asks { X.tells → (conf : List ℕ) → SpellsServe (map string_bytes words.now) conf → Asks result conf (X.texts texts.old) (kept (X.calls texts.old) (M.calls maker.old)) (kept (X.calls texts.new) (M.calls maker.new)) }
+    ensures faults { FaultsSay result (failures (X.faults texts.old) (M.refusals maker.old) (S.faults sink.old)) (failures (X.faults texts.new) (M.refusals maker.new) (S.faults sink.new)) }
 
     // ListenFault comes only before any event was asked for, WaitFault only after Idle, each with a count that rose.
     ensures ends { Ends result (N.last net.new) (N.wait_faults net.old) (N.wait_faults net.new) }
@@ -64,10 +69,10 @@ pub fn serve<R: Wait, X: Texts, N: Waits, F: Files, S: Sink>(
     ensures since { N.since net.old net.new }
 
     // Words that are no line change nothing.
-    ensures usage { result ≡ Status.Usage → (texts.new ≡ texts.old) × (net.new ≡ net.old) × (files.new ≡ files.old) × (sink.new ≡ sink.old) }
+    ensures usage { result ≡ Status.Usage → (texts.new ≡ texts.old) × (maker.new ≡ maker.old) × (net.new ≡ net.old) × (files.new ≡ files.old) × (sink.new ≡ sink.old) }
 {
     match conf_of(alloc, words) {
-        Ok(conf) => serve_conf(rt, alloc, conf, texts, net, files, sink),
+        Ok(conf) => serve_conf(rt, alloc, conf, texts, maker, net, files, sink),
         Err(status) => status,
     }
 }
@@ -88,11 +93,12 @@ fn conf_of<'a>(alloc: Global, words: &'a [String]) -> Result<&'a str, Status>
     }
 }
 
-fn serve_conf<R: Wait, X: Texts, N: Waits, F: Files, S: Sink>(
+fn serve_conf<R: Wait, X: Texts, M: PatternMaker, N: Waits, F: Files, S: Sink>(
     rt: &R,
     alloc: Global,
     conf: &str,
     texts: &mut X,
+    maker: &mut M,
     net: &mut N,
     files: &mut F,
     sink: &mut S,
@@ -103,8 +109,8 @@ fn serve_conf<R: Wait, X: Texts, N: Waits, F: Files, S: Sink>(
     requires unopened { F.tells → (file : ℕ) → (F.disk files.old).table file ≡ None }
     ensures line { IsOfServe result }
     ensures texts { X.tells → TextsSay result (X.texts texts.old) conf.now }
-    ensures asks { X.tells → Asks result conf.now (X.texts texts.old) (X.calls texts.old) (X.calls texts.new) }
-    ensures faults { FaultsSay result (X.faults texts.old) (X.faults texts.new) (S.faults sink.old) (S.faults sink.new) }
+    ensures asks { X.tells → Asks result conf.now (X.texts texts.old) (kept (X.calls texts.old) (M.calls maker.old)) (kept (X.calls texts.new) (M.calls maker.new)) }
+    ensures faults { FaultsSay result (failures (X.faults texts.old) (M.refusals maker.old) (S.faults sink.old)) (failures (X.faults texts.new) (M.refusals maker.new) (S.faults sink.new)) }
     ensures ends { Ends result (N.last net.new) (N.wait_faults net.old) (N.wait_faults net.new) }
     ensures complete { X.tells → HasSomeConf (X.texts texts.old) conf.now → IsComplete result }
     ensures serves { N.tells → F.tells → (N.trace net.new ≡ []) ⊎ ServedBySome
@@ -119,9 +125,9 @@ fn serve_conf<R: Wait, X: Texts, N: Waits, F: Files, S: Sink>(
     ensures unserved { IsUnasked result → files.new ≡ files.old }
     ensures since { N.since net.old net.new }
 {
-    let loaded = match load_warned(alloc, conf, texts, sink) {
+    let loaded = match load_warned(alloc, conf, texts, maker, sink) {
         Ok(loaded) => loaded,
         Err(status) => return status,
     };
-    serve_loaded(rt, alloc, &loaded.config, net, files, sink)
+    serve_loaded(rt, alloc, &loaded, net, files, sink)
 }

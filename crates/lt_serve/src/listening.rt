@@ -1,35 +1,25 @@
 //! Where a server listens, and the line that says it.
-ghost use Rattle.std.specs.Prelude.{◌≡◌, ◌++◌, IfOk, OnOk};
+ghost use Rattle.std.specs.Prelude.{◌≡◌, ◌<◌, ◌^◌, ◌++◌, IfOk, OnOk};
 ghost use Rattle.std.specs.Fmt.{decimal as number_text};
-ghost use Rattle.lt_serve.specs.Listening.{all_true, address_of, address_text, listening_line};
+ghost use Rattle.settings.specs.Indexed.{lists_of_all};
+ghost use Rattle.lt_serve.specs.Listening.{address_of, address_text, listening_line};
 
-use conf_value::{Block, Config, Truth};
-use lt_bytes::{List, NoMemory, Text, decimal};
+use conf_value::Config;
+use lt_bytes::{NoMemory, Text, decimal};
 use lt_world::Address;
-use settings::used;
+use settings::global_settings;
 use std::alloc::Global;
 
 /// The address of `server.bind` and `server.port`. Both count in the global block alone.
-pub fn address_of(alloc: Global, config: &Config) -> Result<Address, NoMemory>
-    ensures { IfOk result (λ at. at ≡ address_of config.now.blocks) }
+pub fn address_of(config: &Config) -> Address
+    requires lists { lists_of_all config.now.blocks < 2 ^ 32 }
+    ensures { result ≡ address_of config.now.blocks }
 {
-    let truths = all_true(alloc, config.blocks.as_slice())?;
-    let settings = used(config, truths.as_slice());
-    Ok(Address {
+    let settings = global_settings(config);
+    Address {
         ip: settings.server_bind,
         port: settings.server_port as u16,
-    })
-}
-
-fn all_true(alloc: Global, blocks: &[Block]) -> Result<List<Truth>, NoMemory>
-    ensures { IfOk result (λ truths. truths ≡ all_true blocks.now) }
-{
-    let mut truths = List::new(alloc);
-    for block in blocks {
-        let _ = block;
-        truths.push(Truth::True)?;
     }
-    Ok(truths)
 }
 
 /// `listening on IP:PORT` and a line feed.

@@ -8,9 +8,11 @@ ghost use Rattle.server_core.specs.Within.{serving_at};
 ghost use Rattle.lt_serve.specs.Finishes.{FinishFits};
 ghost use Rattle.lt_serve.specs.Served.{told_at};
 
+use conditions::Steps;
 use lt_world::{Files, Waits};
 use server_core::{Server, Turn};
 use std::sync::Wait;
+use std::sync::ledger::Ledger;
 
 /// Why no further turn is taken.
 #[derive(Clone, Copy, Debug, PartialEq, Eq)]
@@ -24,11 +26,12 @@ pub enum Finish {
 }
 
 /// Takes turns, and waits where nothing is ready.
-pub fn run<R: Wait, N: Waits, F: Files>(
+pub fn run<R: Wait, N: Waits, F: Files, L: Ledger>(
     rt: &R,
     server: &mut Server<'_>,
     net: &mut N,
     files: &mut F,
+    steps: &mut Steps<L>,
 ) -> Finish
     requires table { IsTable (N.links net.old) server.old.table }
     requires backs { F.tells → Backs (F.disk files.old).table server.old.table }
@@ -43,7 +46,7 @@ pub fn run<R: Wait, N: Waits, F: Files>(
     ensures files_later { F.later files.old files.new }
 {
     for _ in rt.forever() {
-        match server.turn(net, files) {
+        match server.turn(net, files, steps) {
             Turn::Did => {}
             Turn::Idle => {
                 if net.wait().is_err() {

@@ -1,4 +1,5 @@
 //! Calls that serve the clients of a script.
+use conditions::RegexMaker;
 use lt_commands::{Status, answer};
 use lt_script::parse_script;
 use lt_serve::serve;
@@ -50,7 +51,10 @@ fn served<R: Wait>(
     let mut files = MemFiles::new(alloc);
     let mut net = ScriptNet::new(alloc);
     net.load(&script, &mut files)?;
-    let status = serve(rt, alloc, &words, &mut texts, &mut net, &mut files, said);
+    let mut maker = RegexMaker::new(alloc);
+    let status = serve(
+        rt, alloc, &words, &mut texts, &mut maker, &mut net, &mut files, said,
+    );
     let _reported = report(&net, told);
     Ok(status)
 }
@@ -61,7 +65,7 @@ fn replayed(alloc: Global, told: &mut MemSink) -> Result<Status, Fail> {
     let mut texts = MemTexts::new(alloc);
     texts.add(b"K", CONF)?;
     texts.add(b"S", SCRIPT)?;
-    Ok(answer(alloc, &words, &mut texts, told))
+    Ok(answer(alloc, &words, &mut texts, &mut RegexMaker::new(alloc), told))
 }
 
 #[test]

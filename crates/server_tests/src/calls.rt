@@ -1,4 +1,5 @@
 //! The program's calls: the text of each status, and a write that fails in mid-report.
+use conditions::RegexMaker;
 use conf_eval::{ConfFault, ConfKind};
 use lt_commands::{Explanation, Status, answer};
 use lt_world::{MemSink, MemTexts};
@@ -68,7 +69,7 @@ fn replay(alloc: Global, sink: &mut MemSink) -> Result<Status, Fail> {
         b"SCRIPT",
         b"lighttpd-script 1\naccept 10.0.0.5:40000 127.0.0.1:80\n",
     )?;
-    Ok(answer(alloc, &words, &mut texts, sink))
+    Ok(answer(alloc, &words, &mut texts, &mut RegexMaker::new(alloc), sink))
 }
 
 #[test]

@@ -32,7 +32,7 @@ pub returns-clause-runs : goal.returns-clause-runs
 returns-clause-runs g c is = play_runs c.play.result _ c.play.ensures.ends is
 
 pub returns-clause-faults : goal.returns-clause-faults
-returns-clause-faults g c texts_before texts_after = play_faults c.play.result _ texts_before texts_after _ _ c.play.ensures.ends c.play.ensures.cause
+returns-clause-faults g c texts patterns = play_faults c.play.result _ _ _ c.play.ensures.ends c.play.ensures.cause
 
 pub returns-clause-memory : goal.returns-clause-memory
 returns-clause-memory g c = play_memory c.play.result _ c.play.ensures.ends

@@ -14,5 +14,5 @@ returns-clause-complete g c told has = c.in-Err.ensures.only told has.0 has.1
 
 pub returns-clause-prints : goal.returns-clause-prints
 returns-clause-prints g c told texts_told loaded has =
-    front_of_both c.in-Err.status (warning_lines loaded) (codes "Syntax OK\n") (g.S.Sink.bytes c.args.sink.now) (g.S.Sink.bytes c.load_warned.new.sink) (warned_undone c.in-Err.status _ _ _ _ c.in-Err.ensures.cause)
+    front_of_both c.in-Err.status (warning_lines loaded) (codes "Syntax OK\n") (g.S.Sink.bytes c.args.sink.now) (g.S.Sink.bytes c.load_warned.new.sink) (warned_undone c.in-Err.status _ _ c.in-Err.ensures.cause)
     (c.in-Err.ensures.warns told texts_told loaded has)

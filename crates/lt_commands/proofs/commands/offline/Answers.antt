@@ -1,7 +1,9 @@
 use Rattle.std.proofs.Common.{◌≡◌, ℕ, List, ap, refl, subst, sym, map, string_bytes}
 use Rattle.lt_commands.specs.declared.words.Call.{Call}
 use Rattle.lt_commands.specs.Calls.{line_of}
+use Rattle.lt_commands.specs.Failures.{failures}
 use Rattle.lt_commands.specs.Fetching.{LineAsks}
+use Rattle.conf_eval.specs.Answers.{kept}
 use Rattle.lt_commands.specs.Offline.{Completes, IsOfLine, IsQuiet, LineSays, PutsOut}
 use Rattle.lt_commands.specs.Runs.{asked_of}
 use Rattle.lt_commands.specs.Serving.{ServesBench, ServesSpelled}
@@ -15,7 +17,7 @@ use Rattle.lt_commands.proofs.commands.offline.Goals as goal
 -- ---- the words are no line, or memory was wanted
 
 pub returns-in-Err-clause-words : goal.returns-in-Err-clause-words
-returns-in-Err-clause-words g c = (wordless c.in-Err.status _ c.args.net.now.last 0 0 0 0 c.in-Err.ensures.none (ap (λ (p : Playing). p.last) c.requires.net)).words_say
+returns-in-Err-clause-words g c = (wordless c.in-Err.status _ c.args.net.now.last (failures 0 0 0) (failures 0 0 0) c.in-Err.ensures.none (ap (λ (p : Playing). p.last) c.requires.net)).words_say
 
 pub returns-in-Err-clause-texts : goal.returns-in-Err-clause-texts
 returns-in-Err-clause-texts g c told line spelled = wordless_says c.in-Err.status line _ (memory_alone c.in-Err.status _ line c.in-Err.ensures.none spelled)
@@ -24,10 +26,10 @@ pub returns-in-Err-clause-asks : goal.returns-in-Err-clause-asks
 returns-in-Err-clause-asks g c told line spelled = wordless_asks c.in-Err.status line _ _ (memory_alone c.in-Err.status _ line c.in-Err.ensures.none spelled)
 
 pub returns-in-Err-clause-faults : goal.returns-in-Err-clause-faults
-returns-in-Err-clause-faults g c = (wordless c.in-Err.status (map string_bytes c.args.words.now) c.args.net.now.last _ _ _ _ c.in-Err.ensures.none (ap (λ (p : Playing). p.last) c.requires.net)).faults
+returns-in-Err-clause-faults g c = (wordless c.in-Err.status (map string_bytes c.args.words.now) c.args.net.now.last _ _ c.in-Err.ensures.none (ap (λ (p : Playing). p.last) c.requires.net)).faults
 
 pub returns-in-Err-clause-memory : goal.returns-in-Err-clause-memory
-returns-in-Err-clause-memory g c = (wordless c.in-Err.status (map string_bytes c.args.words.now) c.args.net.now.last 0 0 0 0 c.in-Err.ensures.none (ap (λ (p : Playing). p.last) c.requires.net)).memory
+returns-in-Err-clause-memory g c = (wordless c.in-Err.status (map string_bytes c.args.words.now) c.args.net.now.last (failures 0 0 0) (failures 0 0 0) c.in-Err.ensures.none (ap (λ (p : Playing). p.last) c.requires.net)).memory
 
 pub returns-in-Err-clause-complete : goal.returns-in-Err-clause-complete
 returns-in-Err-clause-complete g c told line spelled = wordless_completes c.in-Err.status line _ (memory_alone c.in-Err.status _ line c.in-Err.ensures.none spelled)
@@ -83,7 +85,7 @@ returns-in-Ok-Bench-clause-texts g c told line spelled =
 pub returns-in-Ok-Bench-clause-asks : goal.returns-in-Ok-Bench-clause-asks
 returns-in-Ok-Bench-clause-asks g c told line spelled =
     let found = subst (λ (call : Call). SpellsLine (map string_bytes c.args.words.now) (line_of call)) c.in-Ok-Bench.field-0-is c.in-Ok-Bench.ensures.found in
-    let calls = g.X.Texts.calls c.args.texts.now in
+    let calls = kept (g.X.Texts.calls c.args.texts.now) (g.M.PatternMaker.calls c.args.maker.now) in
     subst (λ (l : Line). LineAsks c.bench.result l (g.X.Texts.texts c.args.texts.now) calls calls) (one_line (map string_bytes c.args.words.now) (Bench c.in-Ok-Bench.clients) line found spelled) refl
 
 pub returns-in-Ok-Bench-clause-complete : goal.returns-in-Ok-Bench-clause-complete

@@ -1,6 +1,7 @@
-use Rattle.std.proofs.Common.{◌≡◌, ◌++◌, ap, sym, ◌∙◌}
+use Rattle.std.proofs.Common.{◌≡◌, ◌++◌, ap, le_refl, sym, ◌∙◌}
 use Rattle.conf_parse.specs.Print.{printed}
-use Rattle.lt_commands.proofs.OfflineLemmas.{is_complete}
+use Rattle.conf_parse.specs.declared.tree.Tree.{Tree}
+use Rattle.lt_commands.proofs.OfflineLemmas.{is_complete, read_faults}
 use Rattle.lt_commands.proofs.commands.print_conf.Goals as goal
 
 pub returns-in-Ok-write_all-clause-prints : goal.returns-in-Ok-write_all-clause-prints
@@ -18,3 +19,6 @@ returns-clause-prints g c told texts_told tree held =
 
 pub returns-in-Err-clause-complete : goal.returns-in-Err-clause-complete
 returns-in-Err-clause-complete g c told has = is_complete has.0 c.in-Err.status (c.in-Err.ensures.only told has.0 has.1)
+
+pub returns-in-Err-clause-faults : goal.returns-in-Err-clause-faults
+returns-in-Err-clause-faults g c patterns = read_faults Tree c.in-Err.status _ _ _ (le_refl _) c.in-Err.ensures.cause

@@ -4,8 +4,8 @@ use Rattle.lt_script.specs.declared.script.Script.{Script}
 use Rattle.script_net.specs.Playing.{Playing}
 use Rattle.conf_eval.specs.declared.fault.Loaded.{Loaded}
 use Rattle.lt_commands.specs.Reading.{ScriptSays}
-use Rattle.lt_commands.proofs.OfflineLemmas.{play_says, play_complete, play_memory, conf_says, script_says, is_complete, is_complete_load, complete_load}
-use Rattle.lt_commands.proofs.ServingLemmas.{unrun, unserved_some, undone, served_for}
+use Rattle.lt_commands.proofs.OfflineLemmas.{play_says, play_complete, play_memory, conf_says, script_says, is_complete, is_complete_load, complete_load, read_faults}
+use Rattle.lt_commands.proofs.ServingLemmas.{unrun, unserved_some, undone, unloaded, served_for}
 use Rattle.lt_commands.proofs.AskingLemmas.{conf_asks, script_asks, play_asks}
 use Rattle.lt_commands.specs.Runs.{asked_of}
 use Rattle.lt_commands.proofs.commands.replay.Goals as goal
@@ -43,7 +43,7 @@ returns-in-Err-clause-serves g c = unserved_some c.in-Err.status _ _ (ap asked_o
 pub returns-in-Err-clause-spelled : goal.returns-in-Err-clause-spelled
 returns-in-Err-clause-spelled g c told loaded said has held =
     unrun loaded said c.in-Err.status _ _ (ap asked_of c.requires.files) (ap (λ (p : Playing). p.game.trace) c.requires.net)
-    (λ done. absurd (undone Loaded c.in-Err.status _ _ c.in-Err.ensures.cause done))
+    (λ done. absurd (unloaded c.in-Err.status _ _ _ _ c.in-Err.ensures.cause done))
 
 pub returns-in-Err-read_script-clause-serves : goal.returns-in-Err-read_script-clause-serves
 returns-in-Err-read_script-clause-serves g c = unserved_some c.in-Err-read_script.status _ _ (ap asked_of c.requires.files) (ap (λ (p : Playing). p.game.trace) c.requires.net)
@@ -63,17 +63,20 @@ returns-clause-spelled g c told loaded said has held =
     served_for c.in-Ok.loaded loaded c.in-Ok-read_script.script said c.play.result _ _ c.play.ensures.serves (c.in-Ok.ensures.only told loaded has) same
 
 pub returns-in-Err-clause-asks : goal.returns-in-Err-clause-asks
-returns-in-Err-clause-asks g c told = conf_asks c.args.conf.now c.args.script.now (g.X.Texts.texts c.args.texts.now) _ (g.X.Texts.calls c.args.texts.now) _ c.in-Err.status (c.in-Err.ensures.asks told)
+returns-in-Err-clause-asks g c told = conf_asks c.args.conf.now c.args.script.now (g.X.Texts.texts c.args.texts.now) _ _ c.in-Err.status (c.in-Err.ensures.asks told)
 
 pub returns-in-Err-read_script-clause-asks : goal.returns-in-Err-read_script-clause-asks
 returns-in-Err-read_script-clause-asks g c told =
     let kept : g.X.Texts.texts c.load_conf.new.texts c.args.script.now ≡ g.X.Texts.texts c.args.texts.now c.args.script.now = ap (λ (texts : List ℕ → Option (List ℕ)). texts c.args.script.now) (c.load_conf.ensures.texts told) in
-    script_asks c.args.conf.now c.args.script.now (g.X.Texts.texts c.args.texts.now) _ _ _ c.in-Err-read_script.status (c.in-Ok.loaded, c.in-Ok.ensures.asks told)
+    script_asks c.args.conf.now c.args.script.now (g.X.Texts.texts c.args.texts.now) _ (g.X.Texts.calls c.load_conf.new.texts) _ (g.M.PatternMaker.calls c.load_conf.new.maker) c.in-Err-read_script.status (c.in-Ok.loaded, c.in-Ok.ensures.asks told)
     (subst (λ (held : Option (List ℕ)). ScriptSays (Err c.in-Err-read_script.status) held) kept (c.in-Err-read_script.ensures.says told)) (c.in-Err-read_script.ensures.asks told)
 
 pub returns-clause-asks : goal.returns-clause-asks
 returns-clause-asks g c told =
-    play_asks c.args.conf.now c.args.script.now (g.X.Texts.texts c.args.texts.now) _ _ _ c.play.result _ c.play.ensures.ends (c.in-Ok.loaded, c.in-Ok.ensures.asks told) (c.in-Ok-read_script.ensures.asks told)
+    play_asks c.args.conf.now c.args.script.now (g.X.Texts.texts c.args.texts.now) _ (g.X.Texts.calls c.load_conf.new.texts) _ (g.M.PatternMaker.calls c.load_conf.new.maker) c.play.result _ c.play.ensures.ends (c.in-Ok.loaded, c.in-Ok.ensures.asks told) (c.in-Ok-read_script.ensures.asks told)
 
 pub returns-clause-memory : goal.returns-clause-memory
 returns-clause-memory g c = play_memory c.play.result _ c.play.ensures.ends
+
+pub returns-in-Err-read_script-clause-faults : goal.returns-in-Err-read_script-clause-faults
+returns-in-Err-read_script-clause-faults g c = read_faults Script c.in-Err-read_script.status _ _ _ c.load_conf.ensures.faults c.in-Err-read_script.ensures.cause

@@ -2,6 +2,7 @@ use Rattle.std.proofs.Common.{List, ℕ, sym, subst, inl}
 use Rattle.server_model.specs.Site.{site_at}
 use Rattle.server_core.specs.Steps.{seen_as}
 use Rattle.lt_commands.specs.Loading.{HasConf, HasSomeConf}
+use Rattle.conf_eval.specs.Answers.{kept}
 use Rattle.lt_serve.specs.Serving.{TextsSay, Asks, announced}
 use Rattle.lt_serve.proofs.RunLemmas.{unserved}
 use Rattle.lt_serve.proofs.ServeLemmas.{one_conf, memory_alone, wordless, wordless_ends, wordless_faults, wordless_texts, wordless_asks, wordless_complete, wordless_says, of_line}
@@ -19,7 +20,7 @@ pub returns-in-Err-clause-asks : goal.returns-in-Err-clause-asks
 returns-in-Err-clause-asks g c told conf spelled = wordless_asks c.in-Err.status conf _ _ (memory_alone c.in-Err.status _ conf c.in-Err.ensures.refused spelled)
 
 pub returns-in-Err-clause-faults : goal.returns-in-Err-clause-faults
-returns-in-Err-clause-faults g c = wordless_faults c.in-Err.status _ _ _ _ _ c.in-Err.ensures.refused
+returns-in-Err-clause-faults g c = wordless_faults c.in-Err.status _ _ _ c.in-Err.ensures.refused
 
 pub returns-in-Err-clause-ends : goal.returns-in-Err-clause-ends
 returns-in-Err-clause-ends g c = wordless_ends c.in-Err.status _ _ _ _ c.in-Err.ensures.refused c.requires.unasked
@@ -51,7 +52,7 @@ returns-in-Ok-clause-texts g c told conf spelled =
 
 pub returns-in-Ok-clause-asks : goal.returns-in-Ok-clause-asks
 returns-in-Ok-clause-asks g c told conf spelled =
-    subst (λ (n : List ℕ). Asks c.serve_conf.result n (g.X.Texts.texts c.args.texts.now) (g.X.Texts.calls c.args.texts.now) (g.X.Texts.calls c.serve_conf.new.texts)) (one_conf _ _ _ c.in-Ok.ensures.conf spelled) (c.serve_conf.ensures.asks told)
+    subst (λ (n : List ℕ). Asks c.serve_conf.result n (g.X.Texts.texts c.args.texts.now) (kept (g.X.Texts.calls c.args.texts.now) (g.M.PatternMaker.calls c.args.maker.now)) (kept (g.X.Texts.calls c.serve_conf.new.texts) (g.M.PatternMaker.calls c.serve_conf.new.maker))) (one_conf _ _ _ c.in-Ok.ensures.conf spelled) (c.serve_conf.ensures.asks told)
 
 pub returns-in-Ok-clause-complete : goal.returns-in-Ok-clause-complete
 returns-in-Ok-clause-complete g c told conf spelled has =

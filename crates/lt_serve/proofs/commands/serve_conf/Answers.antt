@@ -13,7 +13,7 @@ use Rattle.lt_serve.proofs.commands.serve_conf.Goals as goal
 -- ---- no configuration was loaded
 
 pub returns-in-Err-clause-line : goal.returns-in-Err-clause-line
-returns-in-Err-clause-line g c = refused_line _ _ _ _ c.in-Err.status c.in-Err.ensures.cause
+returns-in-Err-clause-line g c = refused_line _ _ c.in-Err.status c.in-Err.ensures.cause
 
 pub returns-in-Err-clause-texts : goal.returns-in-Err-clause-texts
 returns-in-Err-clause-texts g c told = refused_texts c.in-Err.status _ _ (c.in-Err.ensures.says told)
@@ -22,10 +22,10 @@ pub returns-in-Err-clause-asks : goal.returns-in-Err-clause-asks
 returns-in-Err-clause-asks g c told = refused_asks c.in-Err.status _ _ _ _ (c.in-Err.ensures.asks told)
 
 pub returns-in-Err-clause-faults : goal.returns-in-Err-clause-faults
-returns-in-Err-clause-faults g c = refused_faults _ _ _ _ c.in-Err.status c.in-Err.ensures.cause
+returns-in-Err-clause-faults g c = refused_faults _ _ c.in-Err.status c.in-Err.ensures.cause
 
 pub returns-in-Err-clause-ends : goal.returns-in-Err-clause-ends
-returns-in-Err-clause-ends g c = refused_ends _ _ _ _ c.in-Err.status _ _ _ c.in-Err.ensures.cause c.requires.unasked
+returns-in-Err-clause-ends g c = refused_ends _ _ c.in-Err.status _ _ _ c.in-Err.ensures.cause c.requires.unasked
 
 pub returns-in-Err-clause-complete : goal.returns-in-Err-clause-complete
 returns-in-Err-clause-complete g c told has = refused_complete c.in-Err.status (c.in-Err.ensures.only told has.0 has.1)
@@ -39,7 +39,7 @@ returns-in-Err-clause-spelled g c net files told loaded has =
 
 pub returns-in-Err-clause-says : goal.returns-in-Err-clause-says
 returns-in-Err-clause-says g c sink_told told loaded has =
-    refused_says _ _ _ _ c.in-Err.status (warning_lines loaded) (listening_line (address_of loaded.config.blocks)) _ _ c.in-Err.ensures.cause (c.in-Err.ensures.warns sink_told told loaded has)
+    refused_says _ _ c.in-Err.status (warning_lines loaded) (listening_line (address_of loaded.config.blocks)) _ _ c.in-Err.ensures.cause (c.in-Err.ensures.warns sink_told told loaded has)
 
 pub returns-in-Err-clause-since : goal.returns-in-Err-clause-since
 returns-in-Err-clause-since g c = g.met.N.Waits.later_since _ _ (g.met.N.Net.later_same c.args.net.now)
@@ -56,7 +56,7 @@ pub returns-clause-asks : goal.returns-clause-asks
 returns-clause-asks g c told = loaded_asks _ _ _ c.serve_loaded.result _ _ _ _ c.serve_loaded.ensures.ends (c.in-Ok.loaded, c.in-Ok.ensures.asks told)
 
 pub returns-clause-faults : goal.returns-clause-faults
-returns-clause-faults g c = loaded_faults _ _ _ c.serve_loaded.result _ _ _ _ _ c.serve_loaded.ensures.ends c.load_warned.ensures.sink_faults c.serve_loaded.ensures.cause
+returns-clause-faults g c = loaded_faults _ _ _ c.serve_loaded.result _ _ _ c.serve_loaded.ensures.ends c.load_warned.ensures.sink_faults c.serve_loaded.ensures.cause
 
 pub returns-clause-ends : goal.returns-clause-ends
 returns-clause-ends g c = loaded_ends _ _ _ c.serve_loaded.result c.serve_loaded.ensures.ends

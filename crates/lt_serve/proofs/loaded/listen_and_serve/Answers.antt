@@ -6,10 +6,10 @@ use Rattle.lt_serve.proofs.loaded.listen_and_serve.Goals as goal
 
 pub returns-then-is_err-clause-served : goal.returns-then-is_err-clause-served
 returns-then-is_err-clause-served g c net files =
-    unserved (site_at c.args.config.now.blocks) (seen_as (g.F.Files.disk c.args.files.now) (g.F.Files.faults c.args.files.now) (g.F.Files.reads c.args.files.now)) _
+    unserved (site_at c.args.loaded.now.config.blocks) (seen_as (g.F.Files.disk c.args.files.now) (g.F.Files.faults c.args.files.now) (g.F.Files.reads c.args.files.now)) _
     (c.requires.uncalled files) (c.listen.ensures.trace net ∙ c.requires.untold net)
 
 pub returns-in_default-clause-served : goal.returns-in_default-clause-served
 returns-in_default-clause-served g c net files =
-    unserved (site_at c.args.config.now.blocks) (seen_as (g.F.Files.disk c.args.files.now) (g.F.Files.faults c.args.files.now) (g.F.Files.reads c.args.files.now)) _
+    unserved (site_at c.args.loaded.now.config.blocks) (seen_as (g.F.Files.disk c.args.files.now) (g.F.Files.faults c.args.files.now) (g.F.Files.reads c.args.files.now)) _
     (c.requires.uncalled files) (c.listen.ensures.trace net ∙ c.requires.untold net)

@@ -6,7 +6,7 @@ use Rattle.server_core.specs.Steps.{seen_as}
 use Rattle.server_core.specs.Within.{serving_at}
 use Rattle.lt_serve.specs.Served.{IsGivenBack}
 use Rattle.lt_serve.proofs.RunLemmas.{served_all, all_freed-calls}
-use Rattle.lt_serve.proofs.clients.serve_clients.Goals as goal
+use Rattle.lt_serve.proofs.clients.serve_counted.Goals as goal
 
 pub run-finish-requires-clause-table : goal.run-finish-requires-clause-table
 run-finish-requires-clause-table g c = c.requires.table _

@@ -9,16 +9,16 @@ use Rattle.server_model.specs.Serves.{Serves}
 use Rattle.server_core.specs.Within.{serving_at}
 use Rattle.lt_commands.proofs.RunLemmas.{serves_all, all_freed-calls}
 use Rattle.lt_commands.specs.Runs.{Asked, asked_of}
-use Rattle.lt_commands.proofs.playing.serve.Goals as goal
+use Rattle.lt_commands.proofs.playing.serve_counted.Goals as goal
 
 pub run-finish-requires-clause-table : goal.run-finish-requires-clause-table
-run-finish-requires-clause-table c = c.requires.table _
+run-finish-requires-clause-table g c = c.requires.table _
 
 pub run-finish-requires-clause-backs : goal.run-finish-requires-clause-backs
-run-finish-requires-clause-backs c told = c.requires.backs (disk_of c.args.files.now)
+run-finish-requires-clause-backs g c told = c.requires.backs (disk_of c.args.files.now)
 
 pub returns-clause-serves : goal.returns-clause-serves
-returns-clause-serves c =
+returns-clause-serves g c =
     let before = c.args.files.now in
     let after = c.run-finish.new.files in
     let fresh : before.calls ≡ [] = ap (λ (a : Asked). a.calls) c.requires.fresh.unasked in
@@ -30,4 +30,4 @@ returns-clause-serves c =
     (ap tree_by (stays before after c.run-finish.ensures.files_later.leads)) (sym closed) c.close.ensures.faults (sym c.close.ensures.reads) (c.run-finish.ensures.run tt tt start)
 
 pub returns-clause-leads : goal.returns-clause-leads
-returns-clause-leads c = Leads-more c.args.files.now c.run-finish.new.files c.close.new.files c.run-finish.ensures.files_later.leads c.close.ensures.later.leads
+returns-clause-leads g c = Leads-more c.args.files.now c.run-finish.new.files c.close.new.files c.run-finish.ensures.files_later.leads c.close.ensures.later.leads
