@@ -32,7 +32,8 @@ def content(client, request):
 
 def reply(client, request):
     body = content(client, request)
-    head = f"HTTP/1.1 200 OK\r\nContent-Type: application/octet-stream\r\nContent-Length: {len(body)}\r\nServer: lighttpd"
+    fields = "Content-Type: application/octet-stream\r\nAccept-Ranges: bytes\r\nLast-Modified: Thu, 01 Jan 1970 00:00:00 GMT"
+    head = f"HTTP/1.1 200 OK\r\n{fields}\r\nContent-Length: {len(body)}\r\nServer: lighttpd"
     return f"{head}\r\n\r\n{body}"
 
 

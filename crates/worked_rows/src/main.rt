@@ -1,7 +1,7 @@
 //! Plays the worked rows of `rows.txt`: calls of the program, each with the texts that it reads, and what it must
 //! answer. A line for each row says `ok` and its name, or what differed; the last line counts them. The head of that
 //! file says how a row is written.
-//! Stands on `lt_commands` and `lt_serve` for the calls, on the memory forms of `lt_world`, on `lt_script` and `script_net`
+//! Stands on `lt_commands` and `lt_serve` for the calls, on the memory forms of `lt_world` and the maker of `conditions`, on `lt_script` and `script_net`
 //! for the net of a script, and on `files_disk` for the file.
 #![tactic(auto)]
 

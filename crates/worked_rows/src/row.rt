@@ -4,6 +4,7 @@ ghost use Rattle.std.specs.Prelude.{◌<◌};
 use crate::bytes::{first_word, is_wanted, number, push_number, push_quoted};
 use crate::pieces::{Named, bytes_of};
 use anyhow::{Result, bail};
+use conditions::PlannedMaker;
 use lt_bytes::Text;
 use lt_commands::{Status, offline};
 use lt_script::parse_script;
@@ -53,6 +54,8 @@ pub struct Row<'t> {
     room: u64,
     /// The number of the call for a text that fails.
     fails: Option<u32>,
+    /// The numbers of the patterns that are refused.
+    refuses: Vec<u32>,
     status: u64,
     says: &'t [u8],
     output: Text,
@@ -73,6 +76,7 @@ impl<'t> Row<'t> {
             sends: false,
             room: ROOM,
             fails: None,
+            refuses: Vec::new(alloc),
             status: 0,
             says: b"",
             output: Text::new(alloc),
@@ -103,6 +107,7 @@ impl<'t> Row<'t> {
             b"status" => self.set_status(rest),
             b"room" => self.set_room(rest),
             b"fails" => self.set_failing(rest),
+            b"refuses" => self.push_refused(rest),
             b"include" => self.include(names, rest),
             _ => self.take_bytes(key, bytes_of(self.alloc, names, rest)?),
         }
@@ -210,6 +215,14 @@ impl<'t> Row<'t> {
         Ok(())
     }
 
+    fn push_refused(&mut self, digits: &[u8]) -> Result<()> {
+        match number(digits) {
+            Some(nth) => self.refuses.push((nth % 4_096) as u32)?,
+            None => bail!("no number"),
+        }
+        Ok(())
+    }
+
     /// Makes the calls, and says in a line how they went. Whether they went as they must.
     pub fn play<R: Wait>(&self, rt: &R, report: &mut Text) -> Result<bool> {
         if !self.plays(rt, report, self.script.bytes())? {
@@ -240,8 +253,11 @@ impl<'t> Row<'t> {
     }
 
     fn replays(&self, report: &mut Text, script: &[u8]) -> Result<bool> {
-        let (status, output) = self.call_offline(script)?;
-        self.is_right(report, status, output.bytes(), self.output.bytes())
+        let words = words_of(self.alloc, self.words)?;
+        let mut texts = self.texts(script)?;
+        let mut sink = MemSink::new(self.alloc, self.room)?;
+        let status = self.answered(&words, &mut texts, &mut sink)?;
+        self.is_right(report, status, sink.bytes(), self.output.bytes())
     }
 
     fn serves<R: Wait>(
@@ -252,8 +268,11 @@ impl<'t> Row<'t> {
         words: &[u8],
         wanted: &[u8],
     ) -> Result<bool> {
-        let (status, output) = self.call_server(rt, script, words)?;
-        self.is_right(report, status, output.bytes(), wanted)
+        let words = words_of(self.alloc, words)?;
+        let mut texts = self.texts(script)?;
+        let mut sink = MemSink::new(self.alloc, self.room)?;
+        let status = self.served(rt, &words, &mut texts, script, &mut sink)?;
+        self.is_right(report, status, sink.bytes(), wanted)
     }
 
     // Whether a call ended and put out what it must. Says what differs, if something does.
@@ -284,35 +303,42 @@ impl<'t> Row<'t> {
         Ok(false)
     }
 
-    // The status and the output of the call that needs no sockets.
-    fn call_offline(&self, script: &[u8]) -> Result<(Status, Text)> {
-        let words = words_of(self.alloc, self.words)?;
-        let mut texts = self.texts(script)?;
+    // The status of the call that needs no sockets.
+    fn answered(
+        &self,
+        words: &[String],
+        texts: &mut MemTexts,
+        sink: &mut MemSink,
+    ) -> Result<Status> {
+        let mut maker = PlannedMaker::new(self.alloc, &self.refuses)?;
         let mut net = ScriptNet::new(self.alloc);
         let mut files = MemFiles::new(self.alloc);
-        let mut sink = MemSink::new(self.alloc, self.room)?;
-        let status = offline(
-            self.alloc, &words, &mut texts, &mut net, &mut files, &mut sink,
-        );
-        Ok((status, Text::from_bytes(self.alloc, sink.bytes())?))
+        Ok(offline(
+            self.alloc, words, texts, &mut maker, &mut net, &mut files, sink,
+        ))
     }
 
-    // The status of a server over the net and the files of the script, and its output with the report behind it.
-    fn call_server<R: Wait>(&self, rt: &R, script: &[u8], words: &[u8]) -> Result<(Status, Text)> {
-        let words = words_of(self.alloc, words)?;
-        let mut texts = self.texts(script)?;
+    // The status of a server over the net and the files of the script. The sink gets the report as well.
+    fn served<R: Wait>(
+        &self,
+        rt: &R,
+        words: &[String],
+        texts: &mut MemTexts,
+        script: &[u8],
+        sink: &mut MemSink,
+    ) -> Result<Status> {
+        let mut maker = PlannedMaker::new(self.alloc, &self.refuses)?;
         let script = parse_script(self.alloc, script)?;
         let mut net = ScriptNet::new(self.alloc);
         let mut files = MemFiles::new(self.alloc);
         net.load(&script, &mut files)?;
         plan_files(script.faults.as_slice(), &mut files)?;
-        let mut sink = MemSink::new(self.alloc, self.room)?;
         let status = serve(
-            rt, self.alloc, &words, &mut texts, &mut net, &mut files, &mut sink,
+            rt, self.alloc, words, texts, &mut maker, &mut net, &mut files, sink,
         );
         // Where the sink takes no more, the output is not what the row says.
-        let _reported = report(&net, &mut sink);
-        Ok((status, Text::from_bytes(self.alloc, sink.bytes())?))
+        let _reported = report(&net, sink);
+        Ok(status)
     }
 
     // The texts of the row, under the names CONF, SCRIPT and those of what is included.
