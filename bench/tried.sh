@@ -72,8 +72,30 @@ head -c 10485760 /dev/zero > "$folder/large"
 mkdir "$folder/www"
 cp examples/www/* "$folder/www"
 mv "$folder/large" "$folder/www"
-printf 'server.document-root = "%s"\nserver.bind = "127.0.0.1"\nserver.port = %s\nserver.max-keep-alive-requests = 100\n' \
-    "$folder/www" "$port" > "$folder/tried.conf"
+mkdir "$folder/www/below"
+cp examples/www/index.html "$folder/www/below"
+cp examples/www/hello.txt "$folder/www/hello.bak"
+# Chromium tells by the title of this page how wide the image of the other one is.
+cat > "$folder/www/framed.html" << 'PAGE'
+<!DOCTYPE html><title>nothing</title>
+<iframe src="/below" onload="document.title = contentDocument.title + ', ' + contentDocument.images[0].naturalWidth"></iframe>
+PAGE
+cp examples/www/mouse.png "$folder/www/below"
+cat > "$folder/tried.conf" << CONF
+server.document-root = "$folder/www"
+server.bind = "127.0.0.1"
+server.port = $port
+server.max-keep-alive-requests = 100
+server.modules = ( "mod_rewrite" )
+index-file.names = ( "index.html" )
+mimetype.assign = ( ".html" => "text/html; charset=utf-8", ".png" => "image/png", ".txt" => "text/plain" )
+static-file.exclude-extensions = ( ".bak" )
+url.rewrite-once = ( "^/old/([a-z]+)$" => "/\$1.txt" )
+\$HTTP["user-agent"] =~ "^(other)/" {
+    server.tag = "for others"
+    url.rewrite-once = ( "^/who$" => "/%1.txt" )
+}
+CONF
 
 if ! start; then
     fail "the server takes connections: $(cat "$folder/err")"
@@ -88,6 +110,26 @@ if is_there curl; then
     check "curl: a missing page gets 404" test "$(curl -s -o /dev/null -w '%{http_code}' "$site/missing")" = 404
     check "curl -I: the length and no body" test "$(curl -s -I "$site/index.html" | tr -d '\r' | sed -n 's/^Content-Length: //p')" = "$(wc -c < "$page")"
     check "curl: a POST to a file gets 405" test "$(curl -s -o /dev/null -w '%{http_code}' -d x "$site/index.html")" = 405
+    check "curl: a path that ends with / gets the index file, byte for byte" cmp <(curl -s "$site/below/") "$page"
+    check "curl: a directory is redirected, with the query" test "$(curl -s -o /dev/null -w '%{http_code} %{redirect_url}' "$site/below?a=b")" = "301 $site/below/?a=b"
+    check "curl -L: the redirection leads to the page" cmp <(curl -s -L "$site/below") "$page"
+    check "curl: media types by the end of the name" test "$(for name in index.html mouse.png hello.txt large; do
+        curl -s -o /dev/null -w '%{content_type}, ' "$site/$name"; done)" = "text/html; charset=utf-8, image/png, text/plain, application/octet-stream, "
+    check "curl -r: bytes 2 to 4" test "$(curl -s -r 2-4 -w ' %{http_code}' "$site/hello.txt")" = "llo 206"
+    check "curl -r: the last four bytes" test "$(curl -s -r -4 -w '%{http_code}' "$site/hello.txt")" = "$(tail -c 4 examples/www/hello.txt)
+206"
+    check "curl -r: bytes that aren't there get 416" test "$(curl -s -o /dev/null -r 6- -w '%{http_code}' "$site/hello.txt")" = 416
+    head -c 1000 "$folder/www/large" > "$folder/part"
+    curl -s -C - -o "$folder/part" "$site/large"
+    check "curl -C: 10 MiB are gone on with from byte 1,000, byte for byte" cmp "$folder/part" "$folder/www/large"
+    check "curl -z: a file that isn't newer gets 304 and no byte" test "$(curl -s -z "$folder/www/hello.txt" -w '%{http_code}' "$site/hello.txt")" = 304
+    check "curl -z: a file that is newer is sent" test "$(curl -s -o /dev/null -z 'Thu, 01 Jan 1970 00:00:00 GMT' -w '%{http_code}' "$site/hello.txt")" = 200
+    check "curl: an excluded extension gets 403" test "$(curl -s -o /dev/null -w '%{http_code}' "$site/hello.bak")" = 403
+    check "curl: a target is rewritten" cmp <(curl -s "$site/old/hello") examples/www/hello.txt
+    check "curl -A: a condition on the user agent counts for its requests alone" test \
+        "$(curl -s -o /dev/null -A other/1 -D - "$site/hello.txt" | tr -d '\r' | sed -n 's/^Server: //p') $(curl -s -o /dev/null -D - "$site/hello.txt" | tr -d '\r' | sed -n 's/^Server: //p')" = "for others lighttpd"
+    cp examples/www/hello.txt "$folder/www/other.txt"
+    check "curl -A: a rule is filled from the condition of its block" cmp <(curl -s -A other/1 "$site/who") examples/www/hello.txt
     connects=$(curl -s -o /dev/null -w '%{http_code} %{num_connects}\n' "$site/index.html?[1-1000]" |
         awk '$1 == 200 { n++ } { c += $2 } END { print n, c }')
     check "curl: 1,000 requests got 200 over 10 connections ($connects)" test "$connects" = "1000 10"
@@ -119,6 +161,11 @@ if is_there h2load; then
     check "h2load --h1: 800 requests over 8 connections, all 200" eval 'has "800 succeeded, 0 failed" && has "800 2xx"'
     told h2load --h1 -n 100 -c 8 "$site/missing"
     check "h2load --h1: 100 requests for a missing page, all 404" has "0 2xx, 0 3xx, 100 4xx"
+fi
+
+if is_there chromium; then
+    told timeout 60 chromium --headless --no-sandbox --disable-gpu --user-data-dir="$folder/chromium" --virtual-time-budget=5000 --dump-dom "$site/framed.html"
+    check "chromium: a directory is redirected, its page is shown with its image, 64 wide" has "<title>It serves, 64</title>"
 fi
 
 seen "keep-alive" python3 bench/clients.py "$port" keep-alive
